@@ -30,7 +30,7 @@ plain_number (suc n) small = no_dash (decimal (suc n)) (omega (arith, first_deci
 -- ---- names
 
 -- each name has a row
-placed : (name : Name) → tag_of the_type name < 28
+placed : (name : Name) → tag_of the_type name < 29
 placed name = search rules
 
 and_first : (a b : Bool) → (a && b) ≡ true → a ≡ true

@@ -50,6 +50,17 @@ zone_full_line have limit =
     codes "rdfdelta: refused: zone full: have "
     ++ (decimal have ++ (codes ", limit " ++ (decimal limit ++ 10 ∷ [])))
 
+-- a checkpoint that was to be written, and is too large
+abbrev pub checkpoint_too_large_line : ℕ → ℕ → List ℕ
+checkpoint_too_large_line have limit =
+    codes "rdfdelta: refused: checkpoint too large: have "
+    ++ (decimal have ++ (codes ", limit " ++ (decimal limit ++ 10 ∷ [])))
+
+-- a file that begins as a checkpoint, and holds none
+abbrev pub broken_checkpoint_line : ℕ → List ℕ
+broken_checkpoint_line file =
+    codes "rdfdelta: file " ++ (decimal file ++ codes ": broken checkpoint\n")
+
 -- a text that is no patch; one that is too long is so at the first byte past the limit
 abbrev pub fault_at : PatchFault → ℕ
 fault_at (faults.At at kind) = at
@@ -94,7 +105,9 @@ refusal_line (refusals.NotEmpty file length) = codes "rdfdelta: refused: file "
     ++ (decimal file ++ (codes " not empty: " ++ (decimal length ++ 10 ∷ [])))
 refusal_line refusals.ZoneTermsFull = codes "rdfdelta: refused: zone terms full\n"
 refusal_line (refusals.ZoneFull have limit) = zone_full_line have limit
+refusal_line (refusals.CheckpointTooLarge have limit) = checkpoint_too_large_line have limit
 refusal_line (refusals.File fault) = fault_line fault
+refusal_line (refusals.BrokenCheckpoint file) = broken_checkpoint_line file
 refusal_line (refusals.WrongCount disks slots) =
     codes "rdfdelta: file 0: wrong count: disks "
     ++ (decimal disks ++ (codes ", slots " ++ (decimal slots ++ 10 ∷ [])))
@@ -147,7 +160,9 @@ exit_status refusals.CutShort = 7
 exit_status (refusals.BadPatch version fault) = 7
 exit_status (refusals.PeerBehind mine theirs) = 10
 exit_status (refusals.NoPatch version) = 10
+exit_status (refusals.CheckpointTooLarge have limit) = 1
 exit_status (refusals.File fault) = 9
+exit_status (refusals.BrokenCheckpoint file) = 9
 exit_status (refusals.WrongCount disks slots) = 9
 exit_status (refusals.Chain fault) = 10
 exit_status refusals.OutOfMemory = 8

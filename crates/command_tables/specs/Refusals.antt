@@ -4,9 +4,8 @@ use Rattle.slot_checks.specs.declared.fault.CheckFault.{CheckFault}
 use Rattle.slot_checks.specs.declared.fault.CheckFault.TheVariants as checks
 use Rattle.slot_files.specs.declared.fault.InitFault.{InitFault}
 use Rattle.slot_files.specs.declared.fault.InitFault.TheVariants as inits
-use Rattle.zone_state.specs.Zone.{zone_number}
-use Rattle.zone_state.specs.declared.fault.ZoneFault.{ZoneFault}
-use Rattle.zone_state.specs.declared.fault.ZoneFault.TheVariants as zones
+use Rattle.paired_zone.specs.declared.fault.PairFault.{PairFault}
+use Rattle.paired_zone.specs.declared.fault.PairFault.TheVariants as pairs
 use Rattle.command_tables.specs.declared.refusal.Refusal.{Refusal}
 use Rattle.command_tables.specs.declared.refusal.Refusal.TheVariants as refusals
 use Rattle.command_tables.specs.Channels.{Channel, TellsLine}
@@ -25,16 +24,17 @@ check_refusal checks.Failed = refusals.DiskFailed
 check_refusal checks.OutOfMemory = refusals.OutOfMemory
 check_refusal fault = refusals.File fault
 
--- the end of a command that finds a fault of a zone's file
-abbrev pub zone_refusal : ZoneFault → Refusal
-zone_refusal zones.Failed = refusals.DiskFailed
-zone_refusal zones.OutOfMemory = refusals.OutOfMemory
-zone_refusal zones.TermsFull = refusals.ZoneTermsFull
-zone_refusal (zones.Damaged at) = refusals.File (checks.Damaged zone_number at)
-zone_refusal zones.OldFormat = refusals.File (checks.OldFormat zone_number)
-zone_refusal (zones.WrongNumber found) = refusals.File (checks.WrongNumber zone_number found)
-zone_refusal (zones.OverLimit size limit) = refusals.File (checks.OverLimit zone_number size limit)
-zone_refusal (zones.BrokenChain version) = refusals.File (checks.BrokenChain zone_number version)
+-- the end of a command that finds a fault of the two files of a zone
+abbrev pub pair_refusal : PairFault → Refusal
+pair_refusal (pairs.Failed file) = refusals.DiskFailed
+pair_refusal pairs.OutOfMemory = refusals.OutOfMemory
+pair_refusal pairs.TermsFull = refusals.ZoneTermsFull
+pair_refusal (pairs.BrokenCheckpoint file) = refusals.BrokenCheckpoint file
+pair_refusal (pairs.Damaged file at) = refusals.File (checks.Damaged file at)
+pair_refusal (pairs.OldFormat file) = refusals.File (checks.OldFormat file)
+pair_refusal (pairs.WrongNumber file found) = refusals.File (checks.WrongNumber file found)
+pair_refusal (pairs.OverLimit file size limit) = refusals.File (checks.OverLimit file size limit)
+pair_refusal (pairs.BrokenChain file version) = refusals.File (checks.BrokenChain file version)
 
 -- the line was told with its status; or it had to be made, and there was no memory for it
 abbrev pub ReportsRefusal : Refusal → Channel → Channel → ℕ → Type 0

@@ -8,6 +8,7 @@ ghost use Rattle.command_tables.specs.Lines.{not_understood_line, peer_behind_li
 ghost use Rattle.command_tables.specs.Names.{usage_text};
 ghost use Rattle.command_tables.specs.Lines.{few_patches_line, net_too_long_line};
 ghost use Rattle.command_tables.specs.Lines.{refused_line, zone_full_line};
+ghost use Rattle.command_tables.specs.Lines.{broken_checkpoint_line, checkpoint_too_large_line};
 
 use crate::name::Name;
 use crate::refusal::Refusal;
@@ -57,7 +58,11 @@ pub fn made_line(alloc: Global, refusal: &Refusal) -> Result<Vec<u8>, OutOfMemor
         Refusal::NetTooLong { length, limit } => net_too_long_line(alloc, *length, *limit),
         Refusal::NotEmpty { file, length } => not_empty_line(alloc, *file, *length),
         Refusal::ZoneFull { have, limit } => zone_full_line(alloc, *have, *limit),
+        Refusal::CheckpointTooLarge { length, limit } => {
+            checkpoint_too_large_line(alloc, *length, *limit)
+        }
         Refusal::File(fault) => fault_text(alloc, *fault),
+        Refusal::BrokenCheckpoint { file } => broken_checkpoint_line(alloc, *file),
         Refusal::WrongCount { disks, slots } => wrong_count_line(alloc, *disks, *slots),
         Refusal::Refused { status, body } => refused_line(alloc, *status, body),
         Refusal::NotUnderstood { at } => not_understood_line(alloc, *at),
@@ -115,6 +120,22 @@ fn zone_full_line(alloc: Global, have: u64, limit: u64) -> Result<Vec<u8>, OutOf
     ensures { IfOk result (λ text. text.items ≡ zone_full_line have limit) }
 {
     let text = format!(in alloc; "rdfdelta: refused: zone full: have {have}, limit {limit}\n")?;
+    Ok(text.into_bytes())
+}
+
+fn checkpoint_too_large_line(alloc: Global, have: u64, limit: u64) -> Result<Vec<u8>, OutOfMemory>
+    ensures { IfOk result (λ text. text.items ≡ checkpoint_too_large_line have limit) }
+{
+    let text = format!(in alloc;
+        "rdfdelta: refused: checkpoint too large: have {have}, limit {limit}\n"
+    )?;
+    Ok(text.into_bytes())
+}
+
+fn broken_checkpoint_line(alloc: Global, file: u32) -> Result<Vec<u8>, OutOfMemory>
+    ensures { IfOk result (λ text. text.items ≡ broken_checkpoint_line file) }
+{
+    let text = format!(in alloc; "rdfdelta: file {file}: broken checkpoint\n")?;
     Ok(text.into_bytes())
 }
 

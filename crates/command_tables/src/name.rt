@@ -28,6 +28,8 @@ pub enum Name {
     Match,
     /// A zone catches up with a log of a server.
     Sync,
+    /// A zone opens from what it has then, without the patches that made it.
+    Checkpoint,
     /// The files of a zone are brought to the new form.
     UpgradeZone,
     /// The command of the server, which this tool doesn't run.

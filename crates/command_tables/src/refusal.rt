@@ -9,12 +9,12 @@ use crate::name::Name;
 use chain_core::ChainFault;
 use delta_base::{Bytes, OutOfMemory, Sink};
 use nquads_text::TextKind;
+use paired_zone::PairFault;
 use patch_meaning::{PatchFault, PatchKind};
 use sink_writing::write_all;
 use slot_checks::CheckFault;
 use slot_files::InitFault;
 use std::alloc::Global;
-use zone_state::{ZONE_NUMBER, ZoneFault};
 
 /// How a command ends without its result.
 #[derive(Debug, Drop)]
@@ -69,8 +69,17 @@ pub enum Refusal {
         have: u64,
         limit: u64,
     },
+    /// The checkpoint of a zone that was to be written has more bytes than it may have with its file.
+    CheckpointTooLarge {
+        length: u64,
+        limit: u64,
+    },
     /// A file isn't in its form.
     File(CheckFault),
+    /// A file of a zone begins as a checkpoint, and is none or too long for one.
+    BrokenCheckpoint {
+        file: u32,
+    },
     /// There are not as many files as the registry's file says.
     WrongCount {
         disks: u64,
@@ -111,7 +120,7 @@ pub enum Refusal {
 impl Refusal {
     ghost use Rattle.std.specs.Prelude.{◌≡◌};
     ghost use Rattle.command_tables.specs.Refusals.{check_refusal, init_refusal};
-    ghost use Rattle.command_tables.specs.Refusals.{zone_refusal};
+    ghost use Rattle.command_tables.specs.Refusals.{pair_refusal};
 
     /// The end of a command that finds this fault of a file.
     pub fn of_check(fault: CheckFault) -> Refusal
@@ -138,26 +147,30 @@ impl Refusal {
         }
     }
 
-    /// The end of a command that finds this fault of a zone's file.
-    pub fn of_zone(fault: ZoneFault) -> Refusal
-        ensures { result ≡ zone_refusal fault }
+    /// The end of a command that finds this fault of the two files of a zone.
+    pub fn of_pair(fault: PairFault) -> Refusal
+        ensures { result ≡ pair_refusal fault }
     {
-        let file = ZONE_NUMBER;
         match fault {
-            ZoneFault::Failed => Refusal::DiskFailed,
-            ZoneFault::OutOfMemory => Refusal::OutOfMemory,
-            ZoneFault::TermsFull => Refusal::ZoneTermsFull,
-            ZoneFault::Damaged { at } => Refusal::File(CheckFault::Damaged { file, at }),
-            ZoneFault::OldFormat => Refusal::File(CheckFault::OldFormat { file }),
-            ZoneFault::WrongNumber { found } => {
+            PairFault::Failed { .. } => Refusal::DiskFailed,
+            PairFault::OutOfMemory => Refusal::OutOfMemory,
+            PairFault::TermsFull => Refusal::ZoneTermsFull,
+            PairFault::BrokenCheckpoint { file } => Refusal::BrokenCheckpoint { file },
+            PairFault::Damaged { file, at } => Refusal::File(CheckFault::Damaged { file, at }),
+            PairFault::OldFormat { file } => Refusal::File(CheckFault::OldFormat { file }),
+            PairFault::WrongNumber { file, found } => {
                 Refusal::File(CheckFault::WrongNumber { file, found })
             }
-            ZoneFault::OverLimit { length, limit } => Refusal::File(CheckFault::OverLimit {
+            PairFault::OverLimit {
+                file,
+                length,
+                limit,
+            } => Refusal::File(CheckFault::OverLimit {
                 file,
                 length,
                 limit,
             }),
-            ZoneFault::BrokenChain { version } => {
+            PairFault::BrokenChain { file, version } => {
                 Refusal::File(CheckFault::BrokenChain { file, version })
             }
         }
@@ -206,7 +219,8 @@ fn status_of(refusal: &Refusal) -> u8
 {
     match refusal {
         Refusal::NotEmpty { .. } | Refusal::ZoneTermsFull | Refusal::ZoneFull { .. } => 1,
-        Refusal::NetTooLong { .. } | Refusal::Refused { .. } => 1,
+        Refusal::NetTooLong { .. } | Refusal::CheckpointTooLarge { .. } => 1,
+        Refusal::Refused { .. } => 1,
         Refusal::UnknownCommand | Refusal::Usage(_) => 2,
         Refusal::Stream { .. }
         | Refusal::LongPatch { .. }
@@ -219,7 +233,7 @@ fn status_of(refusal: &Refusal) -> u8
         Refusal::LinkFailed => 6,
         Refusal::NotUnderstood { .. } | Refusal::CutShort | Refusal::BadPatch { .. } => 7,
         Refusal::OutOfMemory => 8,
-        Refusal::File(_) | Refusal::WrongCount { .. } => 9,
+        Refusal::File(_) | Refusal::BrokenCheckpoint { .. } | Refusal::WrongCount { .. } => 9,
         Refusal::Chain(_) | Refusal::PeerBehind { .. } | Refusal::NoPatch { .. } => 10,
     }
 }

@@ -140,6 +140,13 @@ pub const ROWS: &[StaticRow] = &[
         help: &["have a zone catch up with a log of the server at an address"],
     },
     CommandRow {
+        name: Name::Checkpoint,
+        word: "checkpoint",
+        positions: &["DIR"],
+        group: Group::Zone,
+        help: &["put what a zone has into its other file, from which it opens then"],
+    },
+    CommandRow {
         name: Name::UpgradeZone,
         word: "upgrade_zone",
         positions: &["DIR"],

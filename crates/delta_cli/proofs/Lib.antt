@@ -5,6 +5,7 @@ mod Made
 mod Printed
 mod ShortStreams
 mod Shown
+mod Checkpointing
 mod Synced
 mod Upgrading
 pub mod Words

@@ -1,5 +1,5 @@
 -- From what a text has to what was printed of it.
-use Rattle.std.proofs.Common.{◌≡◌, ℕ, zero, suc, ◌+◌, ◌-◌, ◌<◌, ◌≤◌, inl, inr, ⊎_elim, List, ◌++◌, Option, None, Some, Result, Ok, Err, IfErr, ap, arith}
+use Rattle.std.proofs.Common.{◌≡◌, ℕ, zero, suc, ◌+◌, ◌-◌, ◌<◌, ◌≤◌, inl, inr, ⊎_elim, List, ◌++◌, Option, None, Some, Result, Ok, Err, IfErr, OnOk, ap, arith}
 use Rattle.delta_base.specs.Outside.{Rose}
 use Rattle.delta_cli.specs.Zones.{bytes_of}
 use Rattle.stream_generator.specs.Generator.{patch_text, patches_from}
@@ -17,6 +17,10 @@ reads_weaker (Some text) after P Q f reads = (reads.0, reads.1, f text reads.2)
 pub err_weaker : {T E : Type 0} (r : Result T E) (P Q : E → Type 0) → ((e : E) → P e → Q e) → IfErr r P → IfErr r Q
 err_weaker (Ok x) P Q f h = tt
 err_weaker (Err e) P Q f h = f e h
+
+pub ok_weaker : {T E : Type 0} (r : Result T E) (P Q : Type 0) → (P → Q) → OnOk r P → OnOk r Q
+ok_weaker (Ok x) P Q f h = f h
+ok_weaker (Err e) P Q f h = tt
 
 pub has_lines : (r : Replayed) (text : List ℕ) → IsReplayed r text → HasReplayLines text (bytes_of r.lines)
 has_lines r text is = record { patches = is.meanings; stream = is.stream; chain = is.replayed.chain; lines_are = is.replayed.lines_are }

@@ -90,6 +90,7 @@ Asks words dice (commands.Zone dir) = AreCommandWords words (codes "zone") (dir 
 Asks words dice (commands.Read dir reading) = AsksToRead words dir reading
 Asks words dice (commands.Sync dir address name) =
     AreCommandWords words (codes "sync") (dir ∷ address ∷ name ∷ []) × IsAddress address
+Asks words dice (commands.Checkpoint dir) = AreCommandWords words (codes "checkpoint") (dir ∷ [])
 Asks words dice (commands.UpgradeZone dir) = AreCommandWords words (codes "upgrade_zone") (dir ∷ [])
 Asks words dice (commands.Ask address call) = AsksFor words dice address call × IsAddress address
 Asks words dice (commands.Describe address name) =

@@ -46,6 +46,7 @@ frame (commands.Upgrade dir) = with_shelf only_out
 frame (commands.Zone dir) = only_shelf
 frame (commands.Read dir reading) = with_shelf only_out
 frame (commands.Sync dir address name) = with_shelf (with_net only_out)
+frame (commands.Checkpoint dir) = with_shelf only_out
 frame (commands.UpgradeZone dir) = with_shelf only_out
 frame (commands.Ask address call) = with_net only_out
 frame (commands.Describe address name) = with_net only_out

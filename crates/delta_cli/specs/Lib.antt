@@ -6,6 +6,7 @@ pub mod Results
 pub mod Squashes
 pub mod Views
 pub mod Zones
+pub mod Checkpoints
 pub mod Syncs
 pub mod Tool
 pub mod Upgrades

@@ -1,29 +1,24 @@
 -- What `sync` does with a zone and a log of a server, or why it stops.
-use Rattle.std.specs.Prelude.{◌≡◌, ◌⊎◌, ℕ, List, [], ◌∷◌, ◌++◌, Some, codes}
+use Rattle.std.specs.Prelude.{◌≡◌, ◌⊎◌, ℕ, List, [], ◌∷◌, ◌++◌, codes}
 use Rattle.std.specs.Fmt.{decimal}
 use Rattle.delta_base.specs.Outside.{Rose}
 use Rattle.delta_base.specs.declared.link.Link.{Ghosts as LinkGhosts}
 use Rattle.log_base.specs.declared.limits.FullKind.{FullKind}
-use Rattle.log_base.specs.declared.limits.TheConstants.{LOG_LIMITS}
 use Rattle.chain_core.specs.declared.testing.ChainFault.TheVariants as chains
-use Rattle.disk_model.specs.Shelf.{SameOthers}
 use Rattle.disk_model.specs.declared.shelf.Shelf.{Ghosts as ShelfGhosts}
-use Rattle.slot_files.specs.Files.{bytes_at}
 use Rattle.delta_client.specs.Exchanges.{DialView}
 use Rattle.delta_client.specs.declared.dial.Dial.{Ghosts as DialGhosts}
 use Rattle.rpc_answers.specs.Answers.{body_of}
 use Rattle.rpc_answers.specs.Prints.{compact}
 use Rattle.rpc_answers.specs.declared.answer.Answer.TheVariants.{NoSource}
-use Rattle.zone_state.specs.Fault.{HasZoneFault}
-use Rattle.zone_state.specs.Zone.{zone_number}
-use Rattle.zone_state.specs.declared.fault.ZoneFault.TheVariants as zones
 use Rattle.follower.specs.declared.ends.SyncEnd.{SyncEnd}
 use Rattle.follower.specs.declared.ends.SyncEnd.TheVariants as ends
+use Rattle.zone_commands.specs.Disks.{SameButZone, first_bytes, second_bytes}
 use Rattle.zone_commands.specs.Following.{Followed}
 use Rattle.command_tables.specs.Channels.{Channel, IsSilent, WritesText}
 use Rattle.delta_cli.specs.Results.{StopsPrinting}
 use Rattle.command_tables.specs.Views.{ShelfView}
-use Rattle.delta_cli.specs.Zones.{HasZoneFileFault, KeepsZone}
+use Rattle.delta_cli.specs.Zones.{KeepsZone, StopsOpening}
 use Rattle.command_tables.specs.declared.refusal.Refusal.{Refusal}
 use Rattle.command_tables.specs.declared.refusal.Refusal.TheVariants as refusals
 
@@ -51,25 +46,15 @@ TellsEnd end (refusals.NoPatch version) = end ≡ ends.NoPatch version
 TellsEnd end refusals.OutOfMemory = (end ≡ ends.OutOfMemory) ⊎ (end ≡ ends.NoSuchName)
 TellsEnd end other = ⊥
 
--- why the zone of a directory can't be opened
-abbrev pub StopsOpening : List ℕ → Type 0 → ShelfView → ShelfView → Refusal → Type 0
-StopsOpening dir tells old new (refusals.File fault) =
-    tells → HasZoneFileFault (bytes_at old.files dir zone_number) fault
-StopsOpening dir tells old new refusals.ZoneTermsFull =
-    tells → HasZoneFault (bytes_at old.files dir zone_number) LOG_LIMITS zones.TermsFull
-StopsOpening dir tells old new refusals.DiskFailed = Rose old.faults new.faults
-StopsOpening dir tells old new refusals.OutOfMemory = Unit {0}
-StopsOpening dir tells old new other = ⊥
-
 module _ {H D N L : Type 0} (shelf : ShelfGhosts H D) (dial : DialGhosts N L)
     (links : LinkGhosts L) (dir address name : List ℕ) where
   -- The zone of the directory followed the log, and that ended so; every other file is as it was. A
   -- failed disk or link has raised its count.
   pub record Synced (old new : ShelfView) (net net' : DialView L) (end : SyncEnd) : Type 0 where
     pub followed : Followed links.left links.sent shelf.tells dial.tells address name
-        (bytes_at old.files dir zone_number) (bytes_at new.files dir zone_number)
-        net net' end
-    pub others : shelf.tells → SameOthers (Some (dir, zone_number)) old.files new.files
+        (first_bytes old.files dir) (second_bytes old.files dir)
+        (first_bytes new.files dir) (second_bytes new.files dir) net net' end
+    pub others : shelf.tells → SameButZone dir old.files new.files
     pub disk : end ≡ ends.DiskFault → Rose old.faults new.faults
     pub link : end ≡ ends.LinkFault → Rose net.faults net'.faults
 

@@ -28,6 +28,7 @@ use Rattle.delta_cli.specs.Frames.{LeavesBut, frame}
 use Rattle.command_tables.specs.Markers.{StopsAtMark, Unmarked}
 use Rattle.command_tables.specs.Views.{ShelfView}
 use Rattle.delta_cli.specs.Views.{OutsideView}
+use Rattle.delta_cli.specs.Checkpoints.{WritesCheckpoint, StopsCheckpoint}
 use Rattle.delta_cli.specs.Syncs.{CatchesUp, StopsSync}
 use Rattle.delta_cli.specs.Upgrades.{StopsUpgrading, UpgradesFiles}
 use Rattle.delta_cli.specs.Zones.{IsNewZone, KeepsZone, ReadsZone, SparesZone}
@@ -108,6 +109,8 @@ module _ {H D N L : Type 0} (shelf : ShelfGhosts H D) (dial : DialGhosts N L)
   Does (commands.Sync dir address name) old new = Unmarked dir ZONE_MARKER shelf.tells (λ seen.
       CatchesUp shelf dial links dir address name
       seen new.shelf old.net new.net old.out new.out) old.shelf
+  Does (commands.Checkpoint dir) old new = Unmarked dir ZONE_MARKER shelf.tells (λ seen.
+      WritesCheckpoint dir shelf.tells seen new.shelf old.out new.out) old.shelf
   Does (commands.UpgradeZone dir) old new =
       UpgradesFiles shelf.tells (IsUpgradedZone dir) old.shelf new.shelf old.out new.out
   Does (commands.Ask address call) old new =
@@ -163,6 +166,11 @@ module _ {H D N L : Type 0} (shelf : ShelfGhosts H D) (dial : DialGhosts N L)
       ⊎ Unmarked dir ZONE_MARKER shelf.tells (λ seen.
       StopsSync shelf dial links dir address
       name seen new.shelf old.net new.net old.out new.out refusal) old.shelf
+  Stops (commands.Checkpoint dir) old new refusal =
+      (StopsAtMark dir ZONE_MARKER shelf.tells old.shelf new.shelf refusal
+      × IsSilent old.out new.out)
+      ⊎ Unmarked dir ZONE_MARKER shelf.tells (λ seen.
+      StopsCheckpoint dir shelf.tells seen new.shelf old.out new.out refusal) old.shelf
   Stops (commands.UpgradeZone dir) old new refusal =
       StopsUpgrading shelf.tells (IsUpgradedZone dir) (StopsZoneUpgrade dir)
       old.shelf new.shelf old.out new.out refusal

@@ -49,7 +49,7 @@ pub enum Command {
     Upgrade {
         dir: Text,
     },
-    /// The file of a directory's zone, which is to be made.
+    /// The first file of a directory's zone, which is to be made.
     Zone {
         dir: Text,
     },
@@ -63,6 +63,10 @@ pub enum Command {
         dir: Text,
         address: Text,
         name: Text,
+    },
+    /// The zone of a directory, which is to open from what it has then.
+    Checkpoint {
+        dir: Text,
     },
     /// The files of a directory's zone, which are to have the new form.
     UpgradeZone {

@@ -9,12 +9,14 @@ ghost use Rattle.slot_files.specs.Files.{IsInitial};
 ghost use Rattle.slot_checks.specs.Lines.{lines_text};
 ghost use Rattle.slot_checks.specs.declared.lines.FileLine.{FileLine};
 ghost use Rattle.slot_checks.specs.declared.marker.TheConstants.{FILES_MARKER, ZONE_MARKER};
+ghost use Rattle.delta_cli.specs.Checkpoints.{StopsCheckpoint, WritesCheckpoint};
 ghost use Rattle.delta_cli.specs.Syncs.{CatchesUp, StopsSync};
 ghost use Rattle.delta_cli.specs.Tool.{Reported, Spares, StopsCheck, StopsInit};
 ghost use Rattle.delta_cli.specs.Zones.{IsNewZone, KeepsZone, ReadsZone, SparesZone, StopsMaking};
 ghost use Rattle.delta_cli.specs.Zones.{StopsZone, bytes_of};
 
 use crate::check::check;
+use crate::checkpoint::checkpoint;
 use crate::init::init;
 use crate::sync::sync_zone;
 use crate::zone::{make_zone, print_zone};
@@ -93,7 +95,7 @@ pub fn check_unmarked<H: Shelf, K: Sink>(
     }
 }
 
-/// Makes the file of a directory's zone.
+/// Makes the first file of a directory's zone.
 pub fn make_zone_unmarked<H: Shelf>(alloc: Global, dir: &Text, shelf: &mut H) -> Result<(), Refusal>
     ensures done { OnOk result (Unmarked dir.now ZONE_MARKER H.tells (λ seen.
         (H.tells → IsNewZone dir.now seen.files (H.files shelf.new))
@@ -137,6 +139,32 @@ pub fn print_zone_unmarked<H: Shelf, K: Sink>(
 {
     match look(alloc, dir, ZONE_MARKER, shelf) {
         Ok(()) => print_zone(alloc, dir, reading, shelf, out),
+        Err(refusal) => Err(refusal),
+    }
+}
+
+/// Makes a checkpoint of the zone of a directory, and writes the version of which it is.
+pub fn checkpoint_zone_unmarked<H: Shelf, K: Sink>(
+    alloc: Global,
+    dir: &Text,
+    shelf: &mut H,
+    out: &mut K,
+) -> Result<(), Refusal>
+    ensures done { OnOk result (Unmarked dir.now ZONE_MARKER H.tells (λ seen.
+        WritesCheckpoint dir.now H.tells seen (shelf_view H.Shelf shelf.new)
+        (output_view K.Sink out.old) (output_view K.Sink out.new))
+        (shelf_view H.Shelf shelf.old)) }
+    ensures stopped { IfErr result (λ refusal.
+        (StopsAtMark dir.now ZONE_MARKER H.tells
+        (shelf_view H.Shelf shelf.old) (shelf_view H.Shelf shelf.new) refusal
+        × IsSilent (output_view K.Sink out.old) (output_view K.Sink out.new))
+        ⊎ Unmarked dir.now ZONE_MARKER H.tells (λ seen.
+        StopsCheckpoint dir.now H.tells seen (shelf_view H.Shelf shelf.new)
+        (output_view K.Sink out.old) (output_view K.Sink out.new) refusal)
+        (shelf_view H.Shelf shelf.old)) }
+{
+    match look(alloc, dir, ZONE_MARKER, shelf) {
+        Ok(()) => checkpoint(alloc, dir, shelf, out),
         Err(refusal) => Err(refusal),
     }
 }

@@ -2,12 +2,11 @@
 ghost use Rattle.std.specs.Prelude.{◌≡◌, ◌≢◌, ℕ, IfErr, IfOk, OnOk};
 ghost use Rattle.follower.specs.declared.ends.SyncEnd.TheVariants as ends;
 ghost use Rattle.command_tables.specs.Addresses.{IsAddress};
-ghost use Rattle.command_tables.specs.Channels.{WritesText};
-ghost use Rattle.delta_cli.specs.Results.{StopsPrinting};
 ghost use Rattle.delta_cli.specs.Syncs.{CatchesUp, StopsSync, TellsEnd, caught_up_line};
 ghost use Rattle.command_tables.specs.Views.{output_view, shelf_view};
 ghost use Rattle.delta_client.specs.Exchanges.{dial_view};
 
+use crate::printing::print_line;
 use chain_core::ChainFault;
 use command_tables::Refusal;
 use delta_base::{OutOfMemory, Sink, Text};
@@ -15,7 +14,6 @@ use delta_client::Dial;
 use disk_model::Shelf;
 use follower::SyncEnd;
 use rpc_answers::{Answer, into_reply};
-use sink_writing::write_all;
 use std::alloc::Global;
 use zone_commands::follow_zone;
 
@@ -41,23 +39,10 @@ pub fn sync_zone<H: Shelf, N: Dial, K: Sink>(
         (output_view K.Sink out.old) (output_view K.Sink out.new)) }
 {
     match follow_zone(alloc, shelf, net, dir, address, name) {
-        Ok(SyncEnd::CaughtUp { version }) => print_version(alloc, version, out),
+        Ok(SyncEnd::CaughtUp { version }) => print_line(version_line(alloc, version), out),
         Ok(end) => Err(refusal_of(alloc, end)),
-        Err(fault) => Err(Refusal::of_zone(fault)),
+        Err(fault) => Err(Refusal::of_pair(fault)),
     }
-}
-
-// Writes the version at which a zone caught up.
-fn print_version<K: Sink>(alloc: Global, version: u32, out: &mut K) -> Result<(), Refusal>
-    ensures done { OnOk result (WritesText
-        (output_view K.Sink out.old) (output_view K.Sink out.new) (caught_up_line version)) }
-    ensures stopped { IfErr result (StopsPrinting (caught_up_line version)
-        (output_view K.Sink out.old) (output_view K.Sink out.new)) }
-{
-    let Ok(line) = version_line(alloc, version) else {
-        return Err(Refusal::OutOfMemory);
-    };
-    write_all(out, line.as_bytes()).map_err(|_| Refusal::OutputFailed)
 }
 
 fn version_line(alloc: Global, version: u32) -> Result<String, OutOfMemory>

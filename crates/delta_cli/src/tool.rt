@@ -13,7 +13,8 @@ use crate::command::{Command, read_command};
 use crate::generate::{emit, generate};
 use crate::help::{VERSION, print, write_help};
 use crate::marker::{
-    check_unmarked, init_unmarked, make_zone_unmarked, print_zone_unmarked, sync_zone_unmarked,
+    check_unmarked, checkpoint_zone_unmarked, init_unmarked, make_zone_unmarked,
+    print_zone_unmarked, sync_zone_unmarked,
 };
 use crate::nquads::nquads;
 use crate::replay::replay;
@@ -90,6 +91,7 @@ fn run_command<S: Source, K: Sink, H: Shelf, N: Dial>(
         Command::Sync { dir, address, name } => {
             sync_zone_unmarked(alloc, dir, address, name, shelf, net, out)
         }
+        Command::Checkpoint { dir } => checkpoint_zone_unmarked(alloc, dir, shelf, out),
         Command::UpgradeZone { dir } => upgrade_zone_files(alloc, dir, shelf, out),
         Command::Ask { address, call } => ask(alloc, address, call, net, out),
         Command::Describe { address, name } => describe(alloc, address, name, net, out),

@@ -1,4 +1,4 @@
-//! The commands on a zone: its file is made, or what is read of it is written.
+//! The commands on a zone: its first file is made, or what is read of its two files is written.
 ghost use Rattle.std.specs.Prelude.{ℕ, List, IfErr, OnOk};
 ghost use Rattle.command_tables.specs.Channels.{WritesText};
 ghost use Rattle.command_tables.specs.Views.{output_view, shelf_view};
@@ -12,9 +12,9 @@ use disk_model::Shelf;
 use slot_files::format_file;
 use std::alloc::Global;
 use zone_commands::{Reading, read_zone};
-use zone_state::ZONE_NUMBER;
+use zone_files::ZONE_NUMBER;
 
-/// Makes the file of a directory's zone.
+/// Makes the first file of a directory's zone.
 pub fn make_zone<H: Shelf>(dir: &Text, shelf: &mut H) -> Result<(), Refusal>
     ensures done { OnOk result (H.tells
         → IsNewZone dir.now (H.files shelf.old) (H.files shelf.new)) }
@@ -28,7 +28,7 @@ pub fn make_zone<H: Shelf>(dir: &Text, shelf: &mut H) -> Result<(), Refusal>
     }
 }
 
-/// Opens the zone of a directory, and writes what is read of it. Its file is left as it was.
+/// Opens the zone of a directory, and writes what is read of it. Its files are left as they were.
 pub fn print_zone<H: Shelf, K: Sink>(
     alloc: Global,
     dir: &Text,
@@ -46,6 +46,6 @@ pub fn print_zone<H: Shelf, K: Sink>(
 {
     match read_zone(alloc, shelf, dir, reading) {
         Ok(lines) => print_made(alloc, &lines, out),
-        Err(fault) => Err(Refusal::of_zone(fault)),
+        Err(fault) => Err(Refusal::of_pair(fault)),
     }
 }

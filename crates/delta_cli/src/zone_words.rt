@@ -24,6 +24,7 @@ pub fn make_of_zone(alloc: Global, name: Name, words: &[String]) -> Result<Comma
     let dir = text_at(alloc, words, 1)?;
     match name {
         Name::Zone => Ok(Command::Zone { dir }),
+        Name::Checkpoint => Ok(Command::Checkpoint { dir }),
         Name::UpgradeZone => Ok(Command::UpgradeZone { dir }),
         Name::Dump => Ok(Command::Read {
             dir,

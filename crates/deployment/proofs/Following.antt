@@ -27,8 +27,10 @@ use Rattle.rpc_calls.specs.declared.call.Call.{Call}
 use Rattle.rpc_calls.specs.declared.call.Call.TheVariants as calls
 use Rattle.zone_state.specs.Zone.{zone_number}
 use Rattle.zone_state.proofs.Sound.{heads}
-use Rattle.follower.specs.Chains.{HasTextAt, TextIsOf, TextsAreOf, IsToldTexts, HoldsFront}
-use Rattle.follower.proofs.Fronts.{shorter_prefix, follows_on, leaves_fronts}
+use Rattle.follower.specs.Chains.{HasTextAt, TextIsOf, TextsAreOf, IsToldTexts}
+use Rattle.follower.specs.Footing.{one_file, HoldsFront}
+use Rattle.follower.proofs.Fronts.{checked_both, checked_front, shorter_prefix, follows_on}
+use Rattle.follower.proofs.Images.{leaves_fronts}
 use Rattle.world_core.proofs.Growing.{GrowsTo}
 use Rattle.deployment.specs.History.{ServerRun}
 use Rattle.deployment.specs.Promise.{KeepsPromise}
@@ -41,10 +43,6 @@ record IsReadOf (patches : List Patch) : Type 0 where
   read : List CheckedPatch
   are_checked : AreChecked read
   bare_is : map bare read ≡ patches
-
-checked_both : (a b : List CheckedPatch) → AreChecked a → AreChecked b → AreChecked (a ++ b)
-checked_both [] b one other = other
-checked_both (p ∷ a) b one other = (one.0, checked_both a b one.1 other)
 
 read_of : (runs : List (List Patch)) → AllByRecursion IsSoundRun runs → IsReadOf (patches_in runs)
 read_of [] sound = record { read = []; are_checked = tt; bare_is = refl }
@@ -178,14 +176,10 @@ module _ {D : Type 0} (number : ℕ) (limits : LogLimits) (image : List ℕ) (ru
         let texts = one_reading New file zone_number (checked_texts taken) (checked_texts held.0) holds held.2 in
         subst (λ (ps : List CheckedPatch). IsPrefix ps whole) (sym (one_read taken held.0 texts are (front_checked held.0 whole front checked))) front
       where
-        checked_first : (a b : List CheckedPatch) → AreChecked (a ++ b) → AreChecked a
-        checked_first [] b all = tt
-        checked_first (p ∷ a) b all = (all.0, checked_first a b all.1)
-
         front_checked : (front all : List CheckedPatch) → IsPrefix front all → AreChecked all → AreChecked front
-        front_checked front all is every = checked_first front is.0 (subst AreChecked (sym is.1) every)
+        front_checked front all is every = checked_front front is.0 (subst AreChecked (sym is.1) every)
 
-    is_told : (file : List ℕ) (run : ZoneRun Z) → HoldsFront whole file → IsZoneRun disks runs file run → IsToldTexts disks whole run.opened run.now run.had run.took run.name run.said run.end
+    is_told : (file : List ℕ) (run : ZoneRun Z) → HoldsFront whole file → IsZoneRun disks runs file run → IsToldTexts (one_file disks) whole run.opened run.now run.had run.took run.name run.said run.end
     is_told file run held is = record {
       checked = checked;
       stands = is.stood;
@@ -197,11 +191,11 @@ module _ {D : Type 0} (number : ℕ) (limits : LogLimits) (image : List ℕ) (ru
 
     left_front : (file : List ℕ) (run : ZoneRun Z) → HoldsFront whole file → IsZoneRun disks runs file run → HoldsFront whole run.image
     left_front file run held is =
-        (leaves_fronts disks run.opened run.now whole run.had run.took run.name run.said run.end (is_told file run held is) tells).each run.image is.leaves
+        (leaves_fronts (one_file disks) run.opened run.now whole run.had run.took run.name run.said run.end (is_told file run held is) tells).each run.image is.leaves
 
     follows : (file : List ℕ) (run : ZoneRun Z) → HoldsFront whole file → IsZoneRun disks runs file run → FollowsOn (patches_in log) run
     follows file run held is =
-        let on = follows_on disks run.opened run.now whole run.had run.took run.name run.said run.end (is_told file run held is) in
+        let on = follows_on (one_file disks) run.opened run.now whole run.had run.took run.name run.said run.end (is_told file run held is) in
         let of_chain : (taken : List CheckedPatch) → IsPrefix taken whole → GrowsTo (map bare taken) (patches_in log) = λ taken front. subst (λ (ps : List Patch). GrowsTo (map bare taken) ps) bare_is (front_bare taken whole front) in
         record {
           front = of_chain (run.had ++ run.took) (without (run.had ++ run.took) run.now.doubt on.begins);

@@ -21,7 +21,8 @@ use Rattle.zone_state.specs.Brief.{brief_of}
 use Rattle.zone_state.specs.Zone.{ZoneView, zone_number}
 use Rattle.follower.specs.declared.ends.SyncEnd.{SyncEnd}
 use Rattle.follower.specs.Calls.{calls_of}
-use Rattle.follower.specs.Grown.{GrewBy, ZoneStands}
+use Rattle.follower.specs.Footing.{one_file, ZoneStands}
+use Rattle.follower.specs.Grown.{GrewBy}
 use Rattle.follower.specs.Syncing.{EndIs}
 use Rattle.world_core.specs.World.{IsFrontOf}
 use Rattle.deployment.specs.Calls.{SeenCall}
@@ -64,9 +65,9 @@ module _ {Z : Type 0} (disks : Ghosts Z) {D : Type 0} (runs : List (ServerRun D)
   -- a run on an image, which may have been stopped at any moment
   pub record IsZoneRun (image : List ℕ) (run : ZoneRun Z) : Type 0 where
     pub holds : Holds image zone_number (checked_texts run.had)
-    pub stood : ZoneStands disks run.opened run.had
+    pub stood : ZoneStands (one_file disks) run.opened run.had
     pub settled : run.opened.doubt ≡ None
-    pub grew : GrewBy disks run.opened run.now run.took run.said
+    pub grew : GrewBy (one_file disks) run.opened run.now run.took run.said
     pub ended : EndIs run.opened run.now run.said run.took run.end
     pub told :
         AllSaid (TextWasTold runs) (calls_of run.name (length run.had) run.said) run.said

@@ -1,6 +1,6 @@
 -- What a zone's answer to the next patch comes to.
 use Rattle.std.proofs.Common.{◌≡◌, ◌≢◌, inl, inr, ⊎_elim, ℕ, ◌+◌, Bool, true, false, not, cond, ltb, List, [], ◌∷◌, ◌++◌, length, Option, Some, None, Result, Ok, Err, refl, sym, ◌∙◌, ap, subst}
-use Rattle.std.specs.Prelude.{OnOk, IfErr}
+use Rattle.std.specs.Prelude.{OnOk, IfErr, IsErrOf}
 use Rattle.std.proofs.lemmas.List.{append-nil}
 use Rattle.delta_base.specs.declared.id.Id.{Id}
 use Rattle.rdf_terms.specs.declared.change.Change.{Change}
@@ -16,7 +16,6 @@ use Rattle.log_base.specs.declared.limits.TheConstants.{PAYLOAD_FRAME}
 use Rattle.log_base.specs.declared.phase.Phase.{Phase}
 use Rattle.log_base.specs.declared.phase.Phase.TheVariants.{Settling, Body, Gate}
 use Rattle.log_journal.specs.Writing.{doubt_left}
-use Rattle.disk_model.specs.declared.disk.Disk.{Ghosts}
 use Rattle.patch_meaning.specs.Checked.{CheckedPatch, Refuses}
 use Rattle.patch_meaning.specs.declared.fault.PatchFault.{PatchFault}
 use Rattle.patch_meaning.specs.declared.fault.PatchFault.TheVariants as faults
@@ -25,15 +24,16 @@ use Rattle.zone_state.specs.declared.answer.TakeAnswer.{TakeAnswer}
 use Rattle.zone_state.specs.declared.answer.TakeAnswer.TheVariants as take
 use Rattle.zone_state.specs.Brief.{Brief, file_length}
 use Rattle.zone_state.specs.Taking.{taking, unless_repeated}
-use Rattle.zone_state.specs.Stay.{decided, answer_by, RefusesPatch, WritesNext}
-use Rattle.zone_state.specs.Takes.{TakesPatch}
+use Rattle.zone_state.specs.Stay.{decided}
 use Rattle.zone_state.specs.Zone.{ZoneView}
-use Rattle.zone_state.proofs.Took.{any_moment}
+use Rattle.follower.specs.declared.ends.TextRefusal.{TextRefusal}
 use Rattle.follower.specs.declared.ends.TextRefusal.TheVariants.{BadPatch, DiskFault}
-use Rattle.follower.specs.Grown.{ZoneStands, Took, Stayed, LeavesAmid, LeftInDoubt, none, as_before, tried_last, IsText, IsNextForZone}
+use Rattle.follower.specs.Footing.{Footing, DisksOf, Point, ZoneStands, ZoneWent}
+use Rattle.follower.specs.Taking.{TakesNext}
+use Rattle.follower.specs.Grown.{TookMore, Took, Stayed, LeftInDoubt, none, as_before, tried_last, IsText, IsNextForZone}
 use Rattle.follower.specs.Syncing.{RefusesText, taken_or_refused, no_patch_at}
-use Rattle.follower.proofs.Amid.{amid_one, stayed_same}
-use Rattle.follower.proofs.Taken.{took_same, took_want}
+use Rattle.follower.proofs.Footings.{went_as}
+use Rattle.follower.proofs.Amid.{stayed_same}
 
 -- ---- results
 
@@ -48,18 +48,18 @@ on_err (Err fault) then is = then fault is
 -- ---- decisions
 
 -- the zone decided so by itself
-abbrev IsDecision : TakeAnswer → Type 0
+abbrev pub IsDecision : TakeAnswer → Type 0
 IsDecision take.TermsFull = ⊥
 IsDecision take.OutOfMemory = ⊥
 IsDecision take.DiskFault = ⊥
 IsDecision other = Unit {0}
 
 -- a patch that diverges names another one than the last
-abbrev NamesAnother : List Id → Patch → TakeAnswer → Type 0
+abbrev pub NamesAnother : List Id → Patch → TakeAnswer → Type 0
 NamesAnother ids patch (take.Diverged have prev) = (have ≡ last_of ids) × (prev ≡ patch.prev) × (prev ≡ have → ⊥)
 NamesAnother ids patch other = Unit {0}
 
-abbrev IsMade : List Id → Patch → TakeAnswer → Type 0
+abbrev pub IsMade : List Id → Patch → TakeAnswer → Type 0
 IsMade ids patch answer = IsDecision answer × NamesAnother ids patch answer
 
 module _ (ids : List Id) (bytes : ℕ) (patch : Patch) (limits : LogLimits) where
@@ -79,23 +79,18 @@ module _ (ids : List Id) (bytes : ℕ) (patch : Patch) (limits : LogLimits) wher
   made_prev true follows = made_id (version_among ids patch.id)
   made_prev false other = (tt, (refl, refl, λ same. true_not_false (sym (ap (λ (id : Option Id). same_id id (last_of ids)) same ∙ same_id-refl (last_of ids)) ∙ other)))
 
-  made : IsMade ids patch (taking ids bytes patch limits)
+  pub made : IsMade ids patch (taking ids bytes patch limits)
   unfolding taking
   made = made_prev (same_id patch.prev (last_of ids)) refl
 
 -- ---- an answer
-
--- what was written was applied, or the disk failed
-written_by : (end : Option Phase) (version : ℕ) (answer : TakeAnswer) → answer ≡ answer_by end version → answer ≢ take.DiskFault → ((at : ℕ) → answer ≢ take.Applied at) → ⊥
-written_by None version answer is no_fault refused = refused version is
-written_by (Some phase) version answer is no_fault refused = no_fault is
 
 doubt_by : (phase : Phase) (before after : Option CheckedPatch) (next : CheckedPatch) → after ≡ doubt_left (Some phase) before next → LeftInDoubt before after [] (next ∷ [])
 doubt_by Settling before after next is = as_before refl is
 doubt_by Body before after next is = none is
 doubt_by Gate before after next is = tried_last next is refl
 
-module _ {D : Type 0} (disks : Ghosts D) (old new : ZoneView D) (next : CheckedPatch) where
+module _ (on : Footing) (old new : ZoneView (DisksOf on)) (next : CheckedPatch) where
   -- what was decided of the zone as it was is decided of it as it is
   same_decision : new.brief ≡ old.brief → new.limits ≡ old.limits → decided new next ≡ decided old next
   same_decision brief limits =
@@ -104,39 +99,38 @@ module _ {D : Type 0} (disks : Ghosts D) (old new : ZoneView D) (next : CheckedP
   changes_one : next.meaning.changes ≡ next.meaning.changes ++ []
   changes_one = sym (append-nil next.meaning.changes)
 
-  module _ (answer : TakeAnswer) (so : TakesPatch disks old new next answer) where
-    amid : LeavesAmid disks old new (next ∷ [])
-    amid = amid_one disks old new next (any_moment disks old new next answer so.stay so.untouched)
-
+  module _ (answer : TakeAnswer) (so : TakesNext on old new next answer) where
     met : AreMet (next.meaning.changes ++ []) old.terms new.terms
     met = subst (λ (cs : List Change). AreMet cs old.terms new.terms) changes_one so.terms
 
-    -- where the zone was settled or not, a refusal leaves it as it was
-    refused_same : (taken : List CheckedPatch) → ZoneStands disks old taken → answer ≢ take.DiskFault → ((at : ℕ) → answer ≢ take.Applied at) → answer ≢ take.TermsFull → answer ≢ take.OutOfMemory → new ≡ old
-    refused_same taken stands no_fault refused no_terms no_want =
-        let one = so.stay taken old.doubt stands no_terms no_want in
-        ⊎_elim (λ (w : WritesNext disks old new taken old.doubt next one.fate answer). absurd (written_by w.end w.version answer w.answer_is no_fault refused))
-        (λ (r : RefusesPatch old new old.doubt next answer). r.same) one.asks
+    -- a refusal is what the zone decided
+    decided_was : answer ≢ take.DiskFault → answer ≢ take.TermsFull → answer ≢ take.OutOfMemory → decided old next ≡ answer
+    decided_was no_fault no_terms no_want =
+        ⊎_elim (λ is. sym is) (λ other. absurd (⊎_elim no_fault (λ rest. ⊎_elim no_terms no_want rest) other.1)) so.decided
 
-    -- a refusal is what the zone decides, as it is then
+    -- and leaves it as it was
+    refused_same : (point : Point on) → ZoneStands on old point → answer ≢ take.DiskFault → ((at : ℕ) → answer ≢ take.Applied at) → answer ≢ take.TermsFull → answer ≢ take.OutOfMemory → new ≡ old
+    refused_same point stands no_fault refused no_terms no_want =
+        so.same point stands (λ version is. refused version (sym (decided_was no_fault no_terms no_want) ∙ is))
+
+    -- and decides, as it is then
     decided_now : answer ≢ take.DiskFault → ((at : ℕ) → answer ≢ take.Applied at) → answer ≢ take.TermsFull → answer ≢ take.OutOfMemory → decided new next ≡ answer
-    decided_now no_fault refused no_terms no_want =
-        ⊎_elim (λ is. same_decision (so.refused refused) so.limits ∙ sym is) (λ other. absurd (⊎_elim no_fault (λ rest. ⊎_elim no_terms no_want rest) other.1)) so.decided
+    decided_now no_fault refused no_terms no_want = same_decision (so.refused refused) so.limits ∙ decided_was no_fault no_terms no_want
 
-    is_next : ((at : ℕ) → answer ≢ take.Applied at) → (version : ℕ) × (decided old next ≡ take.Applied version) → IsNextForZone new next
-    is_next refused one = (one.0, same_decision (so.refused refused) so.limits ∙ one.1)
+    is_decision : answer ≡ decided old next → IsDecision answer
+    is_decision is = subst (λ (it : TakeAnswer). IsDecision it) (sym is) (made old.brief.ids old.brief.bytes (bare next) old.limits).0
 
-  no_decision : take.DiskFault ≡ decided old next → ⊥
-  no_decision is = subst (λ (answer : TakeAnswer). IsDecision answer) (sym is) (made old.brief.ids old.brief.bytes (bare next) old.limits).0
+    -- what the zone didn't decide so is told of the next patch
+    is_next : (IsDecision answer → ⊥) → ((at : ℕ) → answer ≢ take.Applied at) → IsNextForZone new next
+    is_next undecided refused =
+        let can = ⊎_elim (λ is. absurd (undecided (is_decision is))) (λ other. other.0) so.decided in
+        (can.0, same_decision (so.refused refused) so.limits ∙ can.1)
 
-  failed_next : (so : TakesPatch disks old new next take.DiskFault) → IsNextForZone new next
-  failed_next so = is_next take.DiskFault so (λ version same. cc) (⊎_elim (λ is. absurd (no_decision is)) (λ other. other.0) so.decided)
-
-  pub took_ok : (answer : TakeAnswer) (id : Id) (mine : ℕ) → TakesPatch disks old new next answer → OnOk (taken_or_refused answer id mine) (Took disks old new next)
+  pub took_ok : (answer : TakeAnswer) (id : Id) (mine : ℕ) → TakesNext on old new next answer → OnOk (taken_or_refused answer id mine) (Took on old new next)
   took_ok (take.Applied version) id mine so = record {
     brief = so.applied version refl;
-    took = λ taken stands. (so.stay taken old.doubt stands (λ same. cc) (λ same. cc)).stands;
-    amid = amid (take.Applied version) so;
+    took = so.took;
+    amid = so.amid;
     settled = so.doubt;
     met = met (take.Applied version) so;
   }
@@ -149,42 +143,40 @@ module _ {D : Type 0} (disks : Ghosts D) (old new : ZoneView D) (next : CheckedP
 
   module _ (text : List ℕ) (is_text : IsText text next) where
     -- the patch was the next one, and what it needs isn't there
-    wanted : (answer : TakeAnswer) → answer ≢ take.DiskFault → ((version : ℕ) → answer ≢ take.Applied version) → (version : ℕ) × (decided old next ≡ take.Applied version) → TakesPatch disks old new next answer → Stayed disks old new text
-    wanted answer no_fault refused can so =
-        let same = so.untouched no_fault refused in
-        record {
-          brief = so.refused refused;
-          took = took_want disks old new same;
-          tried = next ∷ [];
-          was_tried = inr (next, refl, is_text, is_next answer so refused can);
-          amid = amid answer so;
-          met = met answer so;
-          left_is = as_before refl (ap (λ (zone : ZoneView D). zone.doubt) same);
-        }
+    wanted : (answer : TakeAnswer) → answer ≢ take.DiskFault → ((version : ℕ) → answer ≢ take.Applied version) → (IsDecision answer → ⊥) → TakesNext on old new next answer → TookMore on old new [] → Stayed on old new text
+    wanted answer no_fault refused undecided so took = record {
+      brief = so.refused refused;
+      took = took;
+      tried = next ∷ [];
+      was_tried = inr (next, refl, is_text, is_next answer so undecided refused);
+      amid = so.amid;
+      met = met answer so;
+      left_is = as_before refl (ap (λ (zone : ZoneView (DisksOf on)). zone.doubt) (so.untouched no_fault refused));
+    }
 
-    module _ (taken : List CheckedPatch) (stands : ZoneStands disks old taken) where
-      refuses : (answer : TakeAnswer) → TakesPatch disks old new next answer → answer ≢ take.DiskFault → ((at : ℕ) → answer ≢ take.Applied at) → answer ≢ take.TermsFull → answer ≢ take.OutOfMemory → Stayed disks old new text
-      refuses answer so no_fault refused no_terms no_want = stayed_same disks old new text (refused_same answer so taken stands no_fault refused no_terms no_want)
+    module _ (point : Point on) (stands : ZoneStands on old point) where
+      refuses : (answer : TakeAnswer) → TakesNext on old new next answer → answer ≢ take.DiskFault → ((at : ℕ) → answer ≢ take.Applied at) → answer ≢ take.TermsFull → answer ≢ take.OutOfMemory → Stayed on old new text
+      refuses answer so no_fault refused no_terms no_want = stayed_same on old new text (refused_same answer so point stands no_fault refused no_terms no_want)
 
-      pub took_stayed : (answer : TakeAnswer) (id : Id) (mine : ℕ) → TakesPatch disks old new next answer → IfErr (taken_or_refused answer id mine) (λ _. Stayed disks old new text)
+      pub took_stayed : (answer : TakeAnswer) (id : Id) (mine : ℕ) → TakesNext on old new next answer → IfErr (taken_or_refused answer id mine) (λ _. Stayed on old new text)
       took_stayed (take.Applied version) id mine so = tt
       took_stayed (take.Diverged have prev) id mine so = refuses (take.Diverged have prev) so (λ same. cc) (λ version same. cc) (λ same. cc) (λ same. cc)
       took_stayed (take.Repeated version) id mine so = refuses (take.Repeated version) so (λ same. cc) (λ version same. cc) (λ same. cc) (λ same. cc)
       took_stayed (take.Full what have limit) id mine so = refuses (take.Full what have limit) so (λ same. cc) (λ version same. cc) (λ same. cc) (λ same. cc)
-      took_stayed take.TermsFull id mine so = wanted take.TermsFull (λ same. cc) (λ version same. cc) (so.want (inl refl)).0 so
-      took_stayed take.OutOfMemory id mine so = wanted take.OutOfMemory (λ same. cc) (λ version same. cc) (so.want (inr refl)).0 so
+      took_stayed take.TermsFull id mine so = wanted take.TermsFull (λ same. cc) (λ version same. cc) (λ it. it) so so.took
+      took_stayed take.OutOfMemory id mine so = wanted take.OutOfMemory (λ same. cc) (λ version same. cc) (λ it. it) so so.took
       took_stayed take.DiskFault id mine so = record {
         brief = so.refused (λ version same. cc);
-        took = took_same disks old new (λ before is. (so.stay before old.doubt is (λ same. cc) (λ same. cc)).stands);
+        took = so.took;
         tried = next ∷ [];
-        was_tried = inr (next, refl, is_text, failed_next so);
-        amid = amid take.DiskFault so;
+        was_tried = inr (next, refl, is_text, is_next take.DiskFault so (λ it. it) (λ version same. cc));
+        amid = so.amid;
         met = met take.DiskFault so;
         left_is = doubt_by so.doubt.0 old.doubt new.doubt next so.doubt.1;
       }
 
     module _ (id : Id) (id_is : id ≡ next.meaning.id) (mine : ℕ) (mine_is : mine ≡ length old.brief.ids) where
-      pub took_err : (answer : TakeAnswer) → TakesPatch disks old new next answer → IfErr (taken_or_refused answer id mine) (λ why. RefusesText old.terms [] new text why)
+      pub took_err : (answer : TakeAnswer) → TakesNext on old new next answer → IfErr (taken_or_refused answer id mine) (λ why. RefusesText old.terms [] new text why)
       took_err (take.Applied version) so = tt
       took_err (take.Diverged have prev) so =
           let is = decided_now (take.Diverged have prev) so (λ same. cc) (λ version same. cc) (λ same. cc) (λ same. cc) in
@@ -195,12 +187,12 @@ module _ {D : Type 0} (disks : Ghosts D) (old new : ZoneView D) (next : CheckedP
       took_err (take.Full what have limit) so =
           (next, is_text, decided_now (take.Full what have limit) so (λ same. cc) (λ version same. cc) (λ same. cc) (λ same. cc))
       took_err take.TermsFull so =
-          (next, is_text, is_next take.TermsFull so (λ version same. cc) (so.want (inl refl)).0, subst (λ (cs : List Change). AreMore most cs old.terms) changes_one (so.terms_full refl))
+          (next, is_text, is_next take.TermsFull so (λ it. it) (λ version same. cc), subst (λ (cs : List Change). AreMore most cs old.terms) changes_one (so.terms_full refl))
       took_err take.OutOfMemory so = tt
-      took_err take.DiskFault so = (next, is_text, failed_next so)
+      took_err take.DiskFault so = (next, is_text, is_next take.DiskFault so (λ it. it) (λ version same. cc))
 
-  -- where the disk didn't fail, and nothing was taken
-  pub took_untouched : (answer : TakeAnswer) (id : Id) (mine : ℕ) → TakesPatch disks old new next answer → IfErr (taken_or_refused answer id mine) (λ why. why ≢ DiskFault → new ≡ record old { terms = new.terms })
+  -- where no disk failed, and nothing was taken
+  pub took_untouched : (answer : TakeAnswer) (id : Id) (mine : ℕ) → TakesNext on old new next answer → IfErr (taken_or_refused answer id mine) (λ why. why ≢ DiskFault → new ≡ record old { terms = new.terms })
   took_untouched (take.Applied version) id mine so = tt
   took_untouched (take.Diverged have prev) id mine so = λ other. so.untouched (λ same. cc) (λ version same. cc)
   took_untouched (take.Repeated version) id mine so = λ other. so.untouched (λ same. cc) (λ version same. cc)
@@ -208,6 +200,22 @@ module _ {D : Type 0} (disks : Ghosts D) (old new : ZoneView D) (next : CheckedP
   took_untouched take.TermsFull id mine so = λ other. so.untouched (λ same. cc) (λ version same. cc)
   took_untouched take.OutOfMemory id mine so = λ other. so.untouched (λ same. cc) (λ version same. cc)
   took_untouched take.DiskFault id mine so = λ other. absurd (other refl)
+
+  -- a fault of a disk is told as one
+  pub took_went : (answer : TakeAnswer) (id : Id) (mine : ℕ) → TakesNext on old new next answer → ZoneWent on (IsErrOf (taken_or_refused answer id mine) DiskFault) old.disk new.disk
+  took_went answer id mine so = went_as on (answer ≡ take.DiskFault) (IsErrOf (taken_or_refused answer id mine) DiskFault) old.disk new.disk (told_fault answer) (fault_told answer) so.went
+    where
+      told_fault : (answer : TakeAnswer) → IsErrOf (taken_or_refused answer id mine) DiskFault → answer ≡ take.DiskFault
+      told_fault (take.Applied version) is = absurd (cc)
+      told_fault (take.Diverged have prev) is = absurd (cc)
+      told_fault (take.Repeated version) is = absurd (cc)
+      told_fault (take.Full what have limit) is = absurd (cc)
+      told_fault take.TermsFull is = absurd (cc)
+      told_fault take.OutOfMemory is = absurd (cc)
+      told_fault take.DiskFault is = refl
+
+      fault_told : (answer : TakeAnswer) → answer ≡ take.DiskFault → IsErrOf (taken_or_refused answer id mine) DiskFault
+      fault_told answer is = subst (λ (it : TakeAnswer). IsErrOf (taken_or_refused it id mine) DiskFault) (sym is) refl
 
 -- ---- a text that is no patch
 
@@ -219,3 +227,12 @@ module _ {D : Type 0} (zone : ZoneView D) (text : List ℕ) (version : ℕ) (is 
   no_patch_ends faults.OutOfMemory refuses = tt
   no_patch_ends (faults.At at kind) refuses = bad (faults.At at kind) (λ same. cc) refuses
   no_patch_ends (faults.TooLong length limit) refuses = bad (faults.TooLong length limit) (λ same. cc) refuses
+
+  -- and no disk was asked
+  no_disk_at : (fault : PatchFault) → no_patch_at version fault ≡ DiskFault → ⊥
+  no_disk_at faults.OutOfMemory same = cc
+  no_disk_at (faults.At at kind) same = cc
+  no_disk_at (faults.TooLong length limit) same = cc
+
+  pub no_disk_told : (fault : PatchFault) (why : TextRefusal) → why ≡ no_patch_at version fault → IsErrOf {T = Unit {0}} (Err why) DiskFault → ⊥
+  no_disk_told fault why is told = let same : why ≡ DiskFault = cc in no_disk_at fault (sym is ∙ same)

@@ -2,9 +2,6 @@
 use Rattle.std.proofs.Common.{◌≡◌, inl, inr, ℕ, ◌+◌, List, [], ◌∷◌, ◌++◌, length, Option, Some, None, Ok, refl, sym, ◌∙◌, ap, subst, append_assoc, arith}
 use Rattle.std.proofs.lemmas.List.{append-nil, length-append}
 use mathlib.Core.List.{IsPrefix}
-use Rattle.disk_model.specs.declared.disk.Disk.{Ghosts}
-use Rattle.disk_model.specs.Past.{LeavesOnly}
-use Rattle.disk_model.proofs.Moments.{weaker}
 use Rattle.log_base.specs.OneMore.{with_one_more}
 use Rattle.patch_meaning.specs.Checked.{AreChecked, CheckedPatch, checked_texts}
 use Rattle.patch_meaning.specs.Patch.{IsPatch}
@@ -13,7 +10,9 @@ use Rattle.delta_client.specs.Exchanges.{WasSaid}
 use Rattle.rpc_answers.specs.declared.answer.Answer.TheVariants as answer
 use Rattle.rpc_calls.specs.declared.call.Call.{Call}
 use Rattle.rpc_calls.specs.declared.call.Call.TheVariants as calls
+use Rattle.zone_state.specs.Brief.{Brief, brief_of}
 use Rattle.zone_state.specs.Zone.{ZoneView}
+use Rattle.zone_state.proofs.Growing.{brief-push}
 use Rattle.zone_state.proofs.Sound.{heads}
 use Rattle.catch_up.specs.declared.end.RunEnd.{RunEnd}
 use Rattle.catch_up.specs.Runs.{texts_said}
@@ -22,8 +21,9 @@ use Rattle.follower.specs.declared.ends.SyncEnd.{SyncEnd}
 use Rattle.follower.specs.declared.ends.TextRefusal.{TextRefusal}
 use Rattle.follower.specs.Calls.{calls_of, came, fetches}
 use Rattle.delta_client.specs.Serving.{AllSaid}
-use Rattle.follower.specs.Chains.{IsToldTexts, FollowsChain, HasTextAt, HoldsFront, TextIsOf, TextsAreOf}
-use Rattle.follower.specs.Grown.{GrewBy, HoldsAmid, LeftInDoubt, none, as_before, tried_last, untried, was_next, WasTried, ZoneStands}
+use Rattle.follower.specs.Chains.{IsToldTexts, FollowsChain, HasTextAt, TextIsOf, TextsAreOf}
+use Rattle.follower.specs.Footing.{Footing, one_file, two_files, DisksOf, HasTaken, further, with_patches}
+use Rattle.follower.specs.Grown.{TookMore, LeftInDoubt, none, as_before, tried_last, untried, was_next, WasTried}
 use Rattle.follower.specs.Syncing.{EndIs, RunEnds, unanswered, compared, stopped, caught_up}
 
 -- ---- lists
@@ -41,6 +41,14 @@ pub shorter_prefix : {A : Type 0} (xs ys whole : List A) → IsPrefix (xs ++ ys)
 shorter_prefix xs ys whole is = (ys ++ is.0, sym (append_assoc xs ys is.0) ∙ is.1)
 
 -- ---- patches
+
+pub checked_both : (first second : List CheckedPatch) → AreChecked first → AreChecked second → AreChecked (first ++ second)
+checked_both [] second one other = other
+checked_both (p ∷ first) second one other = (one.0, checked_both first second one.1 other)
+
+pub checked_front : (first second : List CheckedPatch) → AreChecked (first ++ second) → AreChecked first
+checked_front [] second all = tt
+checked_front (p ∷ first) second all = (all.0, checked_front first second all.1)
 
 pub checked_before : (first second : List CheckedPatch) → AreChecked (first ++ second) → AreChecked second
 checked_before [] second all = all
@@ -122,18 +130,37 @@ module _ {D : Type 0} (old new : ZoneView D) (chain taken more : List CheckedPat
         let longer = one_more chain checked (taken ++ more) next fetched.1 so.0 so.1.0 in
         subst (λ (ps : List CheckedPatch). IsPrefix ps chain) (append_assoc taken more (next ∷ []) ∙ ap (λ (ps : List CheckedPatch). taken ++ (more ++ ps)) (sym listed)) longer
 
-module _ {D : Type 0} (disks : Ghosts D) (old new : ZoneView D) (chain taken more : List CheckedPatch) (name : List ℕ) (said : List WasSaid) (end : SyncEnd) (w : IsToldTexts disks chain old new taken more name said end) where
-  begins : IsPrefix taken chain
+-- ---- what is kept
+
+replay_more : (taken more : List CheckedPatch) → with_patches (brief_of taken) more ≡ brief_of (taken ++ more)
+replay_more taken [] = ap brief_of (sym (append-nil taken))
+replay_more taken (next ∷ more) =
+    ap (λ (b : Brief). with_patches b more) (sym (brief-push taken next)) ∙ replay_more (taken ++ next ∷ []) more ∙ ap brief_of (append_assoc taken (next ∷ []) more)
+
+has_brief : (on : Footing) (zone : ZoneView (DisksOf on)) (taken : List CheckedPatch) → HasTaken on zone taken → zone.brief ≡ brief_of taken
+has_brief (one_file disks) zone taken stands = stands.brief_is
+has_brief (two_files disks) zone taken stands = stands.1
+
+has_more : (on : Footing) (old new : ZoneView (DisksOf on)) (taken more : List CheckedPatch) → new.brief ≡ with_patches old.brief more → TookMore on old new more → HasTaken on old taken → HasTaken on new (taken ++ more)
+has_more (one_file disks) old new taken more brief took stands = took taken stands
+has_more (two_files disks) old new taken more brief took stands = (
+  (further (two_files disks) stands.0.0 more new.doubt, took stands.0.0 stands.0.1),
+  brief ∙ (ap (λ (b : Brief). with_patches b more) stands.1 ∙ replay_more taken more),
+)
+
+-- the brief behind patches that a chain of this length took
+pub kept_more : (old new : Brief) (taken more : List CheckedPatch) → old ≡ brief_of taken → new ≡ with_patches old more → new ≡ brief_of (taken ++ more)
+kept_more old new taken more was brief = brief ∙ (ap (λ (b : Brief). with_patches b more) was ∙ replay_more taken more)
+
+module _ (on : Footing) (old new : ZoneView (DisksOf on)) (chain taken more : List CheckedPatch) (name : List ℕ) (said : List WasSaid) (end : SyncEnd) (w : IsToldTexts on chain old new taken more name said end) where
+  pub begins : IsPrefix taken chain
   begins = begins_without chain taken old.doubt w.begins
 
-  stands : ZoneStands disks new (taken ++ more)
-  stands = w.grew.took taken w.stands
+  stands : HasTaken on new (taken ++ more)
+  stands = has_more on old new taken more w.grew.brief w.grew.took w.stands
 
-  are_checked : AreChecked more
-  are_checked = checked_before taken more stands.without.checked
-
-  began : IsPrefix (taken ++ (more ++ w.grew.tried)) chain
-  began = began_by old new chain taken more name said end w.checked begins are_checked w.texts w.ended w.grew.tried w.grew.was_tried
+  pub began : IsPrefix (taken ++ (more ++ w.grew.tried)) chain
+  began = began_by old new chain taken more name said end w.checked begins w.grew.checked w.texts w.ended w.grew.tried w.grew.was_tried
 
   began_taken : IsPrefix (taken ++ more) chain
   began_taken = shorter_prefix (taken ++ more) w.grew.tried chain (subst (λ (ps : List CheckedPatch). IsPrefix ps chain) (sym (append_assoc taken more w.grew.tried)) began)
@@ -147,14 +174,14 @@ module _ {D : Type 0} (disks : Ghosts D) (old new : ZoneView D) (chain taken mor
       subst (λ (doubt : Option CheckedPatch). IsPrefix (with_one_more (taken ++ more) doubt) chain) (sym is)
       (subst (λ (ps : List CheckedPatch). IsPrefix ps chain) (ap (λ (ps : List CheckedPatch). taken ++ (more ++ ps)) listed ∙ sym (append_assoc taken more (one ∷ []))) began)
 
-  pub follows_on : FollowsChain disks chain new (taken ++ more)
-  follows_on = record { stands = stands; begins = begins_with w.grew.left_is; replayed = stands.brief_is }
+  pub follows_on : FollowsChain on chain new (taken ++ more)
+  follows_on = record { stands = stands; begins = begins_with w.grew.left_is; replayed = has_brief on new (taken ++ more) stands }
 
-  holds_front : (image : List ℕ) → HoldsAmid taken old.doubt (more ++ w.grew.tried) image → HoldsFront chain image
-  holds_front image (inl it) =
-      let whole = subst (λ (ps : List CheckedPatch). IsPrefix ps chain) (ap (λ (ps : List CheckedPatch). taken ++ ps) it.2 ∙ sym (append_assoc taken it.0 it.1)) began in
-      (taken ++ it.0, shorter_prefix (taken ++ it.0) it.1 chain whole, it.3)
-  holds_front image (inr it) = (taken ++ it.0 ∷ [], subst (λ (doubt : Option CheckedPatch). IsPrefix (with_one_more taken doubt) chain) it.1 w.begins, it.2)
+  -- a front of the patches begins the chain
+  pub front_begins : (front behind : List CheckedPatch) → more ++ w.grew.tried ≡ front ++ behind → IsPrefix (taken ++ front) chain
+  front_begins front behind is =
+      shorter_prefix (taken ++ front) behind chain (subst (λ (ps : List CheckedPatch). IsPrefix ps chain) (ap (λ (ps : List CheckedPatch). taken ++ ps) is ∙ sym (append_assoc taken front behind)) began)
 
-  pub leaves_fronts : disks.tells → LeavesOnly (HoldsFront chain) (disks.past old.disk) (disks.past new.disk)
-  leaves_fronts told = weaker (HoldsAmid taken old.doubt (more ++ w.grew.tried)) (HoldsFront chain) holds_front (disks.past old.disk) (disks.past new.disk) (w.grew.amid told taken w.stands)
+  -- and so does the one in doubt
+  pub doubt_begins : (one : CheckedPatch) → old.doubt ≡ Some one → IsPrefix (taken ++ one ∷ []) chain
+  doubt_begins one is = subst (λ (doubt : Option CheckedPatch). IsPrefix (with_one_more taken doubt) chain) is w.begins

@@ -1,40 +1,31 @@
 -- What a zone took, step by step.
-use Rattle.std.proofs.Common.{◌≡◌, ◌⊎◌, inl, inr, ⊎_elim, ℕ, List, [], ◌++◌, sym, subst, append_assoc}
+use Rattle.std.proofs.Common.{◌≡◌, ◌⊎◌, inl, inr, ⊎_elim, ℕ, List, [], ◌++◌, sym, subst}
 use Rattle.std.specs.List.{Contains, flat_map}
 use Rattle.std.proofs.lemmas.List.{append-nil}
 use Rattle.std.proofs.lemmas.Grind.{flat_map-append}
 use Rattle.std.proofs.lemmas.List.Elements.{Contains-append_left, Contains-append_right}
-use Rattle.disk_model.specs.declared.disk.Disk.{Ghosts}
 use Rattle.rdf_terms.specs.declared.term.Term.{Term}
 use Rattle.rdf_terms.specs.declared.change.Change.{Change}
 use Rattle.dataset_tx.specs.Held.{terms_of, AreMet, AreMore}
 use Rattle.patch_meaning.specs.Checked.{CheckedPatch}
 use Rattle.zone_state.specs.Brief.{changes_taken}
 use Rattle.zone_state.specs.Zone.{ZoneView}
-use Rattle.follower.specs.Grown.{ZoneStands, TookMore}
+use Rattle.follower.specs.Footing.{Footing, DisksOf, Point, ZoneStands, further}
+use Rattle.follower.specs.Grown.{TookMore}
+use Rattle.follower.proofs.Footings.{further_none, further_both}
 
-module _ {D : Type 0} (disks : Ghosts D) where
-  pub took_same : (old new : ZoneView D) → ((taken : List CheckedPatch) → ZoneStands disks old taken → ZoneStands disks new taken) → TookMore disks old new []
-  took_same old new same taken stands = subst (λ (ps : List CheckedPatch). ZoneStands disks new ps) (sym (append-nil taken)) (same taken stands)
+module _ (on : Footing) where
+  pub took_none : (zone : ZoneView (DisksOf on)) → TookMore on zone zone []
+  took_none zone point stands = subst (λ (p : Point on). ZoneStands on zone p) (sym (further_none on zone point stands)) stands
 
-  pub took_none : (zone : ZoneView D) → TookMore disks zone zone []
-  took_none zone = took_same zone zone (λ taken stands. stands)
-
-  pub took_both : (old mid new : ZoneView D) (more next : List CheckedPatch) → TookMore disks old mid more → TookMore disks mid new next → TookMore disks old new (more ++ next)
-  took_both old mid new more next first second taken stands =
-      subst (λ (ps : List CheckedPatch). ZoneStands disks new ps) (append_assoc taken more next) (second (taken ++ more) (first taken stands))
+  pub took_both : (old mid new : ZoneView (DisksOf on)) (more next : List CheckedPatch) → TookMore on old mid more → TookMore on mid new next → TookMore on old new (more ++ next)
+  took_both old mid new more next first second point stands =
+      subst (λ (p : Point on). ZoneStands on new p) (further_both on point more next mid.doubt new.doubt) (second (further on point more mid.doubt) (first point stands))
 
   -- a zone that stays
-  pub took_still : (old mid new : ZoneView D) (more : List CheckedPatch) → TookMore disks old mid more → TookMore disks mid new [] → TookMore disks old new more
+  pub took_still : (old mid new : ZoneView (DisksOf on)) (more : List CheckedPatch) → TookMore on old mid more → TookMore on mid new [] → TookMore on old new more
   took_still old mid new more first second =
-      subst (λ (ps : List CheckedPatch). TookMore disks old new ps) (append-nil more) (took_both old mid new more [] first second)
-
-  -- where what it needs isn't there, a zone learns of terms alone
-  pub took_want : (old new : ZoneView D) → new ≡ record old { terms = new.terms } → TookMore disks old new []
-  took_want old new is = took_same old new (λ taken stands.
-      let here : ZoneStands disks (record old { terms = new.terms }) taken =
-      record { brief_is = stands.brief_is; doubt_is = stands.doubt_is; without = stands.without; having = stands.having; on_disk = stands.on_disk } in
-      subst (λ (zone : ZoneView D). ZoneStands disks zone taken) (sym is) here)
+      subst (λ (ps : List CheckedPatch). TookMore on old new ps) (append-nil more) (took_both old mid new more [] first second)
 
 -- ---- terms
 

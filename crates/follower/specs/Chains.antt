@@ -2,14 +2,12 @@
 use Rattle.std.specs.Prelude.{◌≡◌, ℕ, ◌+◌, ◌≤◌, List, [], ◌∷◌, ◌++◌, Option, None, Ok}
 use Rattle.std.specs.Prelude.{length, map}
 use mathlib.Core.List.{IsPrefix}
-use Rattle.disk_model.specs.declared.disk.Disk.{Ghosts}
 use Rattle.log_base.specs.OneMore.{with_one_more}
-use Rattle.log_journal.specs.File.{Holds}
 use Rattle.chain_core.specs.Ids.{last_of}
 use Rattle.chain_core.specs.Links.{IsChain}
 use Rattle.chain_core.specs.Patches.{links_of}
 use Rattle.patch_log.specs.Log.{bare}
-use Rattle.patch_meaning.specs.Checked.{AreChecked, CheckedPatch, checked_texts}
+use Rattle.patch_meaning.specs.Checked.{AreChecked, CheckedPatch}
 use Rattle.delta_client.specs.Exchanges.{WasSaid}
 use Rattle.delta_client.specs.Serving.{AllSaid, IsSaidBy, Serves}
 use Rattle.rpc_answers.specs.declared.answer.Answer.{Answer}
@@ -17,13 +15,14 @@ use Rattle.rpc_answers.specs.declared.answer.Answer.TheVariants as answer
 use Rattle.rpc_calls.specs.declared.call.Call.{Call}
 use Rattle.rpc_calls.specs.declared.call.Call.TheVariants as calls
 use Rattle.zone_state.specs.Brief.{brief_of, id_taken}
-use Rattle.zone_state.specs.Zone.{ZoneView, zone_number}
+use Rattle.zone_state.specs.Zone.{ZoneView}
 use Rattle.follower.specs.declared.ends.SyncEnd.{SyncEnd}
 use Rattle.follower.specs.declared.ends.SyncEnd.TheVariants.{CaughtUp, Full, TermsFull}
 use Rattle.follower.specs.declared.ends.SyncEnd.TheVariants.{LinkFault, DiskFault, OutOfMemory}
 use Rattle.follower.specs.Calls.{calls_of, fetches}
 use Rattle.follower.specs.Causes.{Cause}
-use Rattle.follower.specs.Grown.{GrewBy, ZoneStands}
+use Rattle.follower.specs.Footing.{Footing, DisksOf, HasTaken}
+use Rattle.follower.specs.Grown.{GrewBy}
 use Rattle.follower.specs.Syncing.{EndIs}
 
 -- ---- texts
@@ -48,30 +47,25 @@ TextsAreOf chain calls said = AllSaid (TextIsOf chain) calls said
 
 -- ---- a zone that follows a chain
 
-module _ {D : Type 0} (disks : Ghosts D) (chain : List CheckedPatch) where
-  -- the zone stands for patches that begin the chain, also with the one in doubt, and its dataset
-  -- is their replay
-  pub record FollowsChain (zone : ZoneView D) (taken : List CheckedPatch) : Type 0 where
-    pub stands : ZoneStands disks zone taken
+module _ (on : Footing) (chain : List CheckedPatch) where
+  -- the zone took patches that begin the chain, also with the one in doubt, and its dataset is
+  -- their replay
+  pub record FollowsChain (zone : ZoneView (DisksOf on)) (taken : List CheckedPatch)
+      : Type 0 where
+    pub stands : HasTaken on zone taken
     pub begins : IsPrefix (with_one_more taken zone.doubt) chain
     pub replayed : zone.brief ≡ brief_of taken
 
   -- A zone that follows the chain caught up with a peer, each text of which was that of the chain
   -- at its version.
-  pub record IsToldTexts (old new : ZoneView D) (taken more : List CheckedPatch) (name : List ℕ)
-      (said : List WasSaid) (end : SyncEnd) : Type 0 where
+  pub record IsToldTexts (old new : ZoneView (DisksOf on)) (taken more : List CheckedPatch)
+      (name : List ℕ) (said : List WasSaid) (end : SyncEnd) : Type 0 where
     pub checked : AreChecked chain
-    pub stands : ZoneStands disks old taken
+    pub stands : HasTaken on old taken
     pub begins : IsPrefix (with_one_more taken old.doubt) chain
-    pub grew : GrewBy disks old new more said
+    pub grew : GrewBy on old new more said
     pub ended : EndIs old new said more end
     pub texts : TextsAreOf chain (calls_of name (length taken) said) said
-
--- the image is that of a zone that took patches with which the chain begins
-abbrev pub HoldsFront : List CheckedPatch → List ℕ → Type 0
-HoldsFront chain image =
-    (front : List CheckedPatch) × IsPrefix front chain
-    × Holds image zone_number (checked_texts front)
 
 -- ---- answers
 

@@ -2,34 +2,24 @@
 use Rattle.std.specs.Prelude.{◌≡◌, ◌⊎◌, ℕ, ◌<◌, List, [], ◌∷◌, ◌++◌, Option, Some, None, Ok}
 use Rattle.std.specs.Prelude.{length}
 use Rattle.delta_base.specs.declared.id.Id.{Id}
-use Rattle.disk_model.specs.declared.disk.Disk.{Ghosts}
-use Rattle.disk_model.specs.Past.{LeavesOnly}
-use Rattle.log_journal.specs.File.{Holds}
 use Rattle.dataset_tx.specs.Held.{AreMet}
-use Rattle.patch_meaning.specs.Checked.{CheckedPatch, checked_texts}
+use Rattle.patch_meaning.specs.Checked.{AreChecked, CheckedPatch}
 use Rattle.patch_meaning.specs.Patch.{IsPatch}
 use Rattle.rpc_answers.specs.declared.answer.Answer.TheVariants as answer
 use Rattle.zone_state.specs.declared.answer.TakeAnswer.TheVariants as take
 use Rattle.zone_state.specs.Brief.{with_patch, changes_taken}
 use Rattle.zone_state.specs.Stay.{decided}
-use Rattle.zone_state.specs.Zone.{ZoneView, StandsForZone, zone_number}
+use Rattle.zone_state.specs.Zone.{ZoneView}
 use Rattle.delta_client.specs.Exchanges.{WasSaid}
 use Rattle.follower.specs.Calls.{came}
+use Rattle.follower.specs.Footing.{Footing, DisksOf, Point, ZoneStands, LeavesBehind, further}
+use Rattle.follower.specs.Footing.{with_patches}
 
 -- ---- the patch tried last
 
 -- the text is that of this patch
 abbrev pub IsText : List ℕ → CheckedPatch → Type 0
 IsText text next = (next.text ≡ text) × IsPatch text next.meaning
-
--- while patches are taken an image holds those before and a front of these, or those before and the
--- one that was in doubt
-abbrev pub HoldsAmid : List CheckedPatch → Option CheckedPatch → List CheckedPatch → List ℕ → Type 0
-HoldsAmid taken doubt more image =
-    ((front : List CheckedPatch) × (behind : List CheckedPatch) × (more ≡ front ++ behind)
-    × Holds image zone_number (checked_texts (taken ++ front)))
-    ⊎ ((one : CheckedPatch) × (doubt ≡ Some one)
-    × Holds image zone_number (checked_texts (taken ++ one ∷ [])))
 
 -- the patch left in doubt behind those taken and the one tried then: none; where none was taken,
 -- the one before; or the one tried
@@ -63,26 +53,23 @@ module _ {D : Type 0} (zone : ZoneView D) where
     was_next : (next : CheckedPatch) → tried ≡ next ∷ [] → Fetched more said next
         → IsNextForZone next → WasTried more said tried
 
-module _ {D : Type 0} (disks : Ghosts D) where
-  -- the zone stands for these patches, and for the one that it has in doubt
-  abbrev pub ZoneStands : ZoneView D → List CheckedPatch → Type 0
-  ZoneStands zone taken = StandsForZone disks.tells (disks.past zone.disk) zone taken zone.doubt
+module _ (on : Footing) where
+  -- for whatever the zone stood, it stands for that and these patches, and for the one in doubt
+  abbrev pub TookMore : ZoneView (DisksOf on) → ZoneView (DisksOf on) → List CheckedPatch → Type 0
+  TookMore old new more = (point : Point on) → ZoneStands on old point
+      → ZoneStands on new (further on point more new.doubt)
 
-  -- for whatever patches the zone stood, it stands for them and these
-  abbrev pub TookMore : ZoneView D → ZoneView D → List CheckedPatch → Type 0
-  TookMore old new more =
-      (taken : List CheckedPatch) → ZoneStands old taken → ZoneStands new (taken ++ more)
-
-  -- a crash at any moment leaves an image of these
-  abbrev pub LeavesAmid : ZoneView D → ZoneView D → List CheckedPatch → Type 0
+  -- for whatever it stood, a crash at any moment leaves that and a front of these
+  abbrev pub LeavesAmid : ZoneView (DisksOf on) → ZoneView (DisksOf on) → List CheckedPatch → Type 0
   LeavesAmid old new more =
-      disks.tells → (taken : List CheckedPatch) → ZoneStands old taken
-      → LeavesOnly (HoldsAmid taken old.doubt more) (disks.past old.disk) (disks.past new.disk)
+      (point : Point on) → ZoneStands on old point → LeavesBehind on point more old new
 
   -- The zone took these patches, and tried one more, or none. A crash at any moment leaves a front
   -- of them all; the terms that it met are theirs; and which patch is left in doubt is known.
-  pub record GrewBy (old new : ZoneView D) (more : List CheckedPatch) (said : List WasSaid)
-      : Type 0 where
+  pub record GrewBy (old new : ZoneView (DisksOf on)) (more : List CheckedPatch)
+      (said : List WasSaid) : Type 0 where
+    pub brief : new.brief ≡ with_patches old.brief more
+    pub checked : AreChecked more
     pub took : TookMore old new more
     pub tried : List CheckedPatch
     pub was_tried : WasTried new more said tried
@@ -91,7 +78,7 @@ module _ {D : Type 0} (disks : Ghosts D) where
     pub left_is : LeftInDoubt old.doubt new.doubt more tried
 
   -- the zone took this patch
-  pub record Took (old new : ZoneView D) (next : CheckedPatch) : Type 0 where
+  pub record Took (old new : ZoneView (DisksOf on)) (next : CheckedPatch) : Type 0 where
     pub brief : new.brief ≡ with_patch old.brief next
     pub took : TookMore old new (next ∷ [])
     pub amid : LeavesAmid old new (next ∷ [])
@@ -99,7 +86,7 @@ module _ {D : Type 0} (disks : Ghosts D) where
     pub settled : new.doubt ≡ None
 
   -- the zone took nothing of this text: it tried its patch as the next one, or none
-  pub record Stayed (old new : ZoneView D) (text : List ℕ) : Type 0 where
+  pub record Stayed (old new : ZoneView (DisksOf on)) (text : List ℕ) : Type 0 where
     pub brief : new.brief ≡ old.brief
     pub took : TookMore old new []
     pub tried : List CheckedPatch

@@ -1,4 +1,6 @@
 pub mod Calls
+pub mod Footing
+pub mod Taking
 pub mod Grown
 pub mod Syncing
 pub mod Replicas

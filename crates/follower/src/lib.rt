@@ -11,7 +11,9 @@ mod laws;
 mod own_zone;
 mod syncing;
 mod taking;
+mod zones;
 
 pub use ends::{SyncEnd, TextRefusal};
 pub use laws::{catching_up_completes, ends_have_causes, followers_follow, runs_are_syncs};
 pub use syncing::sync;
+pub use zones::Follower;

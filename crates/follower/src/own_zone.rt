@@ -4,38 +4,38 @@ ghost use Rattle.follower.specs.Replicas.{ShowsOwn, TakesOwn};
 
 use crate::ends::TextRefusal;
 use crate::taking::take_text;
+use crate::zones::Follower;
 use catch_up::{Replica, Standing};
-use disk_model::Disk;
 use std::alloc::Global;
 use std::marker::PhantomData;
-use zone_state::Zone;
 
-/// Zones on such disks. The state is the zone itself.
+/// Such zones. The state is the zone itself.
 #[derive(Drop)]
-pub(crate) struct OwnZone<D> {
-    of: PhantomData<D>,
+pub(crate) struct OwnZone<Z> {
+    of: PhantomData<Z>,
 }
 
-impl<D> OwnZone<D> {
-    pub(crate) fn new() -> OwnZone<D> {
+impl<Z> OwnZone<Z> {
+    pub(crate) fn new() -> OwnZone<Z> {
         OwnZone { of: PhantomData }
     }
 }
 
-impl<D: Disk> Replica for OwnZone<D> {
-    type State = Zone<D>;
+impl<Z: Follower> Replica for OwnZone<Z> {
+    type State = Z;
 
     type Refusal = TextRefusal;
 
     ghost ready = { λ _ zone. Unit {0} };
 
-    ghost goes_on = { λ _ zone from. from ≡ length zone.brief.ids };
+    ghost goes_on = { λ _ zone from. from ≡ length (Z.zone zone).brief.ids };
 
-    ghost shows = { λ _. ShowsOwn };
+    ghost shows = { λ _ old version head new. ShowsOwn (Z.zone old) version head (Z.zone new) };
 
-    ghost takes = { λ _. TakesOwn D.Disk };
+    ghost takes = { λ _ old version text result new.
+        TakesOwn Z.footing (Z.zone old) version text result (Z.zone new) };
 
-    fn standing(&self, zone: &mut Zone<D>) -> Standing {
+    fn standing(&self, zone: &mut Z) -> Standing {
         Standing {
             version: zone.version(),
             head: zone.head(),
@@ -45,7 +45,7 @@ impl<D: Disk> Replica for OwnZone<D> {
     fn take(
         &self,
         alloc: Global,
-        zone: &mut Zone<D>,
+        zone: &mut Z,
         text: &[u8],
         version: u32,
     ) -> Result<u32, TextRefusal> {

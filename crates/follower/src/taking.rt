@@ -1,16 +1,16 @@
 //! Taking the text of a patch that was fetched.
 ghost use Rattle.std.specs.Prelude.{◌≡◌, ◌≢◌, ◌+◌, [], length, OnOk, IfErr, IsErrOf};
-ghost use Rattle.log_journal.specs.Written.{DiskWent};
 ghost use Rattle.patch_meaning.specs.Checked.{CheckedPatch};
+ghost use Rattle.follower.specs.Footing.{ZoneWent};
 ghost use Rattle.follower.specs.Grown.{IsText, Stayed, Took};
 ghost use Rattle.follower.specs.Syncing.{RefusesText, no_patch_at, taken_or_refused};
 
 use crate::ends::TextRefusal;
+use crate::zones::Follower;
 use delta_base::Id;
-use disk_model::Disk;
 use patch_meaning::{PatchFault, check_patch};
 use std::alloc::Global;
-use zone_state::{TakeAnswer, Zone};
+use zone_state::TakeAnswer;
 
 // A text that is no patch, or want of memory.
 fn no_patch(version: u32, fault: PatchFault) -> TextRefusal
@@ -42,22 +42,24 @@ fn told(answer: TakeAnswer, id: Id, mine: u32) -> Result<(), TextRefusal>
 }
 
 /// Takes the text of a patch as the zone's next one, which has this version.
-pub(crate) fn take_text<D: Disk>(
+pub(crate) fn take_text<Z: Follower>(
     alloc: Global,
-    zone: &mut Zone<D>,
+    zone: &mut Z,
     text: &[u8],
     version: u32,
 ) -> Result<(), TextRefusal>
-    requires { version ≡ length zone.old.brief.ids + 1 }
+    requires { version ≡ length (Z.zone zone.old).brief.ids + 1 }
     ensures ok { OnOk result ((next : CheckedPatch) × IsText text.now next
-        × Took D.Disk zone.old zone.new next) }
-    ensures err { IfErr result (λ why. RefusesText zone.old.terms [] zone.new text.now why) }
-    ensures stayed { IfErr result (λ _. Stayed D.Disk zone.old zone.new text.now) }
+        × Took Z.footing (Z.zone zone.old) (Z.zone zone.new) next) }
+    ensures err { IfErr result (λ why.
+        RefusesText (Z.zone zone.old).terms [] (Z.zone zone.new) text.now why) }
+    ensures stayed { IfErr result (λ _.
+        Stayed Z.footing (Z.zone zone.old) (Z.zone zone.new) text.now) }
     ensures untouched { IfErr result (λ why. why ≢ TextRefusal.DiskFault
-        → zone.new ≡ record zone.old { terms = zone.new.terms }) }
-    ensures went { DiskWent D.Disk (IsErrOf result TextRefusal.DiskFault) zone.old.disk
-        zone.new.disk }
-    ensures limits { zone.new.limits ≡ zone.old.limits }
+        → Z.zone zone.new ≡ record (Z.zone zone.old) { terms = (Z.zone zone.new).terms }) }
+    ensures went { ZoneWent Z.footing (IsErrOf result TextRefusal.DiskFault)
+        (Z.zone zone.old).disk (Z.zone zone.new).disk }
+    ensures limits { (Z.zone zone.new).limits ≡ (Z.zone zone.old).limits }
 {
     let patch = match check_patch(alloc, text) {
         Ok(patch) => patch,

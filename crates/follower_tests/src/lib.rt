@@ -5,6 +5,8 @@
 #[cfg(test)]
 mod ends;
 #[cfg(test)]
+mod pairs;
+#[cfg(test)]
 mod peers;
 #[cfg(test)]
 mod taken;

@@ -6,8 +6,9 @@ ghost use Rattle.http_text.specs.Print.{is_visible};
 use delta_base::{Bytes, Calls, MemLink, OutOfMemory, Text};
 use delta_client::MemDial;
 use disk_model::MemDisk;
-use follower::{SyncEnd, sync};
-use log_base::LogLimits;
+use follower::{Follower, SyncEnd, sync};
+use log_base::{LOG_LIMITS, LogLimits};
+use paired_zone::PairedZone;
 use patch_meaning::check_patch;
 use std::alloc::Global;
 use std::test::Fail;
@@ -168,6 +169,26 @@ pub(crate) fn new_zone(
     }
 }
 
+/// A zone on two files that took nothing, on disks whose calls of these numbers fail; none where one
+/// of them is a call of the opening.
+pub(crate) fn new_pair(
+    alloc: Global,
+    (of_first, of_second): (&[u64], &[u64]),
+) -> Result<Option<PairedZone<MemDisk>>, OutOfMemory> {
+    let first = disk_of(alloc, EMPTY, of_first)?;
+    let second = match disk_of(alloc, b"", of_second) {
+        Ok(second) => second,
+        Err(fault) => {
+            drop(first);
+            return Err(fault);
+        }
+    };
+    match PairedZone::open_pair(alloc, first, second, LOG_LIMITS) {
+        Ok(zone) => Ok(Some(zone)),
+        Err(_) => Ok(None),
+    }
+}
+
 /// A zone takes these patches.
 fn takes(alloc: Global, zone: &mut Zone<MemDisk>, patches: &[&[u8]]) -> Result<(), Fail> {
     for text in patches {
@@ -204,10 +225,10 @@ fn host(alloc: Global) -> Result<Text, OutOfMemory>
 }
 
 /// Catches up with the log ABC.
-fn synced(
+fn synced<Z: Follower>(
     alloc: Global,
     net: &mut MemDial<MemLink>,
-    zone: &mut Zone<MemDisk>,
+    zone: &mut Z,
 ) -> Result<SyncEnd, OutOfMemory> {
     let host = host(alloc)?;
     let name = Text::from_str(alloc, "ABC")?;
@@ -215,10 +236,10 @@ fn synced(
 }
 
 /// How catching up with the log ABC ends, in short.
-pub(crate) fn synced_in_short(
+pub(crate) fn synced_in_short<Z: Follower>(
     alloc: Global,
     net: &mut MemDial<MemLink>,
-    zone: &mut Zone<MemDisk>,
+    zone: &mut Z,
 ) -> Result<(&'static str, u64, u64), OutOfMemory> {
     let end = synced(alloc, net, zone)?;
     let told = short(&end);

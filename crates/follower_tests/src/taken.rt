@@ -11,11 +11,11 @@ use std::test::Fail;
 use zone_state::Zone;
 
 /// What the five patches make.
-const LINES: &[u8] =
+pub(crate) const LINES: &[u8] =
     b"<http://e/s> <http://e/p> \"5\" .\n<http://e/s> <http://e/p> <http://e/o2> .\n";
 
 /// The answers of a log of all five patches to a zone that has none.
-static ALL: [Reply; 6] = [
+pub(crate) static ALL: [Reply; 6] = [
     Reply::Log(5),
     Reply::Patch(1),
     Reply::Patch(2),
@@ -145,7 +145,7 @@ fn reads_lines(
 }
 
 /// Lines one behind another.
-fn joined_lines(alloc: Global, lines: &MadeLines) -> Result<Vec<u8>, OutOfMemory> {
+pub(crate) fn joined_lines(alloc: Global, lines: &MadeLines) -> Result<Vec<u8>, OutOfMemory> {
     let mut found = Vec::new(alloc);
     for at in 0..lines.len() {
         found.extend_from_slice(lines.line(at))?;

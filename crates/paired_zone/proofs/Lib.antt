@@ -2,3 +2,8 @@ pub mod Standing
 pub mod Written
 pub mod Opened
 pub mod Taking
+pub mod Values
+pub mod Sizes
+pub mod Printing
+pub mod Renewed
+pub mod Making

@@ -35,15 +35,19 @@ use Rattle.log_journal.specs.declared.fault.JournalFault.{JournalFault}
 use Rattle.log_journal.specs.declared.fault.JournalFault.TheVariants as journal
 use Rattle.zone_files.proofs.Generations.{one_generation, shown_by as shown_by_payloads}
 use Rattle.zone_pairs.proofs.Together.{checkpoint_begins}
+use Rattle.log_journal.specs.declared.at_front.FrontFault.{FrontFault}
+use Rattle.log_journal.specs.declared.at_front.FrontFault.TheVariants as front
+use Rattle.zone_beside.specs.declared.fault.FindFault.{FindFault}
+use Rattle.zone_beside.specs.declared.fault.FindFault.TheVariants as find
 use Rattle.paired_reading.specs.Fault.{HasPayloadsFault}
 use Rattle.paired_reading.specs.declared.fault.PayloadsFault.{PayloadsFault}
 use Rattle.paired_reading.specs.declared.fault.PayloadsFault.TheVariants as broken
 use Rattle.paired_zone.specs.declared.fault.PairFault.TheVariants.{Failed}
 use Rattle.paired_zone.specs.declared.fault.PairFault.{PairFault}
-use Rattle.paired_zone.specs.Fault.{of_journal, of_payloads, HasJournalFault, HoldsFault, HasPairFault, no_journal, no_payloads}
+use Rattle.paired_zone.specs.Fault.{at_front, of_finding, of_journal, of_payloads, HasJournalFault, HoldsFault, HasPairFault, no_journal, no_payloads}
 use Rattle.paired_zone.specs.Zone.{PairedView}
 use Rattle.paired_zone.proofs.Standing.{stands_at}
-use Rattle.paired_zone.specs.Opening.{IsInFile, IsOpened, RefusedDisk, OpensCurrent, RefusesCurrent}
+use Rattle.paired_zone.specs.Opening.{FailsAtOne, IsInFile, IsOpened, RefusedDisk, OpensCurrent, RefusesCurrent}
 use Rattle.paired_zone.specs.State.{view_of, IsPoint, IsPairKept}
 
 -- ---- how long journals are
@@ -230,6 +234,17 @@ journal_failed file other (journal.WrongNumber found) same = absurd (cc)
 journal_failed file other (journal.OverLimit length limit) same = absurd (cc)
 journal_failed file other journal.OutOfMemory same = absurd (cc)
 
+front_failed : (second : Bool) (fault : FrontFault) (file : ℕ) → at_front (number_of second) fault ≡ Failed file → file ≡ number_of second
+front_failed second front.Failed file same = sym (file_failed (number_of second) file same)
+front_failed second (front.Damaged at) file same = absurd (cc)
+front_failed second front.OldFormat file same = absurd (cc)
+front_failed second (front.WrongNumber found) file same = absurd (cc)
+front_failed second front.OutOfMemory file same = absurd (cc)
+
+pub finding_failed : (fault : FindFault) → FailsAtOne (of_finding fault)
+finding_failed (find.AtFront second fault) file same = (second, front_failed second fault file same)
+finding_failed (find.BrokenCheckpoint second) file same = absurd (cc)
+
 module _ {D : Type 0} (disks : Ghosts D) (current : D) (second : Bool) (limits : LogLimits) where
   -- of the journal
   pub refuses_journal : (found : JournalFault) (refused : D) → RefusedOpening disks (found ≡ journal.Failed) current refused → (disks.tells → HasFault (reads (disks.past current)) (number_of second) ZONE_FILE_LIMIT found)
@@ -237,6 +252,7 @@ module _ {D : Type 0} (disks : Ghosts D) (current : D) (second : Bool) (limits :
   refuses_journal found refused went has = record {
     went = refused_as disks (found ≡ journal.Failed) (of_journal (number_of second) found ≡ Failed (number_of second)) current refused (λ told. (journal_failed (number_of second) (number_of second) found told).0) (λ is. ap (of_journal (number_of second)) is) (refused_first disks (found ≡ journal.Failed) current refused went);
     other_went = λ same. numbers_differ second (journal_failed (number_of second) (number_of (not second)) found same).1;
+    in_current = λ file is. sym (journal_failed (number_of second) file found is).1;
     has = λ told. inl (record { found = found; fault_is = refl; has = has told });
   }
 
@@ -246,6 +262,7 @@ module _ {D : Type 0} (disks : Ghosts D) (current : D) (second : Bool) (limits :
   refuses_payloads found held refused n reopened holds short has = record {
     went = refused_never disks (of_payloads (number_of second) found ≡ Failed (number_of second)) current refused n (never_failed (number_of second) (number_of second) found) reopened;
     other_went = never_failed (number_of second) (number_of (not second)) found;
+    in_current = λ file is. absurd (never_failed (number_of second) file found is);
     has = λ told. inr (record { payloads = held; holds = holds told; short = short; found = found; fault_is = refl; has = has });
   }
 
@@ -254,6 +271,7 @@ module _ {D : Type 0} (disks : Ghosts D) (current : D) (second : Bool) (limits :
   refuses_changed refused n reopened never = record {
     went = refused_never disks (of_payloads (number_of second) broken.BrokenCheckpoint ≡ Failed (number_of second)) current refused n (never_failed (number_of second) (number_of second) broken.BrokenCheckpoint) reopened;
     other_went = never_failed (number_of second) (number_of (not second)) broken.BrokenCheckpoint;
+    in_current = λ file is. absurd (never_failed (number_of second) file broken.BrokenCheckpoint is);
     has = λ told. absurd (never told);
   }
 

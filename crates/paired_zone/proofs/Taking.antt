@@ -95,6 +95,7 @@ module _ {D : Type 0} (disks : Ghosts D) where
       applied = λ version is. absurd (told.no_version version is);
       refused = λ never. refl;
       untouched = λ fault never. refl;
+      same = λ never. refl;
       doubt = same_doubt answer patch old.doubt (refused_tells answer told);
       second = refl;
       generation = refl;
@@ -118,6 +119,7 @@ module _ {D : Type 0} (disks : Ghosts D) where
             applied = λ other is. absurd (tells.no_version other is);
             refused = λ never. λ i. (same i).brief;
             untouched = λ fault never. same;
+            same = λ never. absurd (never version next);
             doubt = subst (λ (doubt : Option CheckedPatch). LeavesInDoubt answer old.doubt patch doubt) (λ i. (sym same i).doubt) (same_doubt answer patch old.doubt tells);
             second = λ i. (same i).second;
             generation = λ i. (same i).generation;
@@ -139,6 +141,7 @@ module _ {D : Type 0} (disks : Ghosts D) where
         applied = λ other is. brief;
         refused = λ never. absurd (never version refl);
         untouched = λ fault never. absurd (never version refl);
+        same = λ never. absurd (never version next);
         doubt = doubt;
         second = second;
         generation = generation;
@@ -154,6 +157,7 @@ module _ {D : Type 0} (disks : Ghosts D) where
         applied = λ other is. absurd (cc);
         refused = λ never. brief;
         untouched = λ fault never. absurd (fault refl);
+        same = λ never. absurd (never version next);
         doubt = (phase, doubt);
         second = second;
         generation = generation;

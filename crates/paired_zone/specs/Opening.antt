@@ -43,6 +43,11 @@ pub record RefusedDisk {D : Type 0} (disks : Ghosts D) (failed : Type 0)
   pub well : (failed → ⊥) → disks.faults after ≡ disks.faults before
   pub mark : disks.mark after ≡ disks.mark before
 
+-- a call failed at one of the two files, and at no other
+abbrev pub FailsAtOne : PairFault → Type 0
+FailsAtOne fault =
+    (file : ℕ) → fault ≡ Failed file → (second : Bool) × (file ≡ number_of second)
+
 -- the current file, beside which the other one stands, is that of this zone
 pub record OpensCurrent {D : Type 0} (disks : Ghosts D) (current : D) (on_second : Bool)
     (generation : ℕ) (other : D) (limits : LogLimits) (zone : PairedView D) : Type 0 where
@@ -64,6 +69,7 @@ pub record RefusesCurrent {D : Type 0} (disks : Ghosts D) (current : D) (on_seco
     (limits : LogLimits) (fault : PairFault) (refused : D) : Type 0 where
   pub went : RefusedDisk disks (fault ≡ Failed (number_of on_second)) current refused
   pub other_went : fault ≢ Failed (number_of (not on_second))
+  pub in_current : (file : ℕ) → fault ≡ Failed file → file ≡ number_of on_second
   pub has : disks.tells
       → HasJournalFault (reads (disks.past current)) (number_of on_second) fault
       ⊎ HoldsFault (reads (disks.past current)) (number_of on_second) limits fault

@@ -71,6 +71,9 @@ pub record TakesPatch {D : Type 0} (disks : Ghosts D) (old new : PairedView D)
   -- where no disk was asked, nothing changes but what is known of terms
   pub untouched : answer ≢ DiskFault → ((version : ℕ) → answer ≢ Applied version)
       → new ≡ record old { terms = new.terms }
+  -- where the patch isn't the next one, nothing changes
+  pub same : ((version : ℕ)
+      → taking old.brief.ids old.brief.bytes (bare patch) old.limits ≢ Applied version) → new ≡ old
   -- the patch in doubt is none, or the one before, or this one
   pub doubt : LeavesInDoubt answer old.doubt patch new.doubt
   -- the same file is current, in the same generation

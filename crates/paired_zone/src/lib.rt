@@ -5,8 +5,11 @@
 //! without a common clock of the two disks.
 #![tactic(auto)]
 
+mod answer;
 mod fault;
+mod making;
 mod zone;
 
+pub use answer::CheckEnd;
 pub use fault::{PairFault, PairRefusal};
 pub use zone::PairedZone;

@@ -11,15 +11,19 @@ ghost use Rattle.dataset_tx.specs.Prefixes.{prefix_change};
 ghost use Rattle.dataset_tx.specs.Rows.{change_cmp, rows_in_order};
 ghost use Rattle.chain_core.specs.Ids.{last_of};
 ghost use Rattle.zone_files.specs.Generation.{number_of, IsInGeneration};
+ghost use Rattle.zone_beside.specs.Finding.{IsCurrent};
 ghost use Rattle.zone_beside.specs.StandsBehind.{StandsBehind};
 ghost use Rattle.zone_pairs.specs.Pair.{PairPoint, ZoneHolds};
 ghost use Rattle.paired_zone.specs.Fault.{HasPairFault};
-ghost use Rattle.paired_zone.specs.Opening.{IsInFile, IsOpened, RefusedDisk};
+ghost use Rattle.paired_zone.specs.Opening.{FailsAtOne, IsInFile, IsOpened, RefusedDisk};
 ghost use Rattle.paired_zone.specs.Opening.{OpensCurrent, RefusesCurrent};
 ghost use Rattle.paired_zone.specs.Takes.{TakesPatch};
+ghost use Rattle.paired_zone.specs.Checkpointing.{MakesCheckpoint, doubt_by, end_by};
 ghost use Rattle.paired_zone.specs.Zone.{StandsAt, first_in, second_in};
 
+use crate::answer::CheckEnd;
 use crate::fault::{CurrentRefusal, PairFault, PairRefusal};
+use crate::making::{MakeFault, make_checkpoint};
 use dataset_tx::{DataFault, Pattern};
 use delta_base::{Id, OutOfMemory};
 use disk_model::Disk;
@@ -27,14 +31,14 @@ use line_log::MadeLines;
 use log_base::{LogLimits, ZONE_FILE_LIMIT};
 use log_journal::{Journal, OpenRefusal};
 use paired_journal::{Files, in_order};
-use paired_reading::{FoundZone, PairReading};
+use paired_reading::{CHECKPOINT_FILE_LIMIT, FoundZone, PairReading};
 use patch_meaning::Checked;
 use quad_index::Steps;
 use rdf_terms::{Changes, Quads};
 use std::alloc::Global;
 use std::marker::Model;
 use std::sync::ledger::Ledger;
-use zone_beside::{Beside, FindRefusal, Found, file_number, find_current};
+use zone_beside::{Beside, FindRefusal, Found, WriteFault, file_number, find_current};
 use zone_state::{Doubtful, Kept, TakeAnswer};
 
 /// Patches taken in order. Those that a checkpoint has stand in it alone, and the texts of the later
@@ -69,6 +73,26 @@ fn is_beside<D: Disk>(beside: &Beside<D>, generation: Option<u64>) -> bool
     }
 }
 
+// No patch is in doubt once the journal is settled.
+fn settle_where(doubt: &mut Doubtful, settled: bool)
+    ensures { doubt.new.patch ≡ doubt_by settled doubt.old.patch }
+{
+    if settled {
+        doubt.settle();
+    }
+}
+
+// What is answered where a checkpoint was written, or wasn't.
+fn end_of(written: Result<(), WriteFault>, version: u32) -> CheckEnd
+    ensures { result ≡ end_by written version }
+{
+    match written {
+        Ok(()) => CheckEnd::Done { version },
+        Err(WriteFault::Failed) => CheckEnd::DiskFault,
+        Err(WriteFault::OutOfMemory) => CheckEnd::OutOfMemory,
+    }
+}
+
 impl<D: Disk> PairedZone<D> {
     /// Opens the two files of a zone, which a crash may have left. A refusal hands the disks back.
     pub fn open_pair(
@@ -86,11 +110,14 @@ impl<D: Disk> PairedZone<D> {
         // It is the zone that the two files hold together.
         ensures held { D.tells → IfOk result (λ zone.
             ZoneHolds (reads (D.past first)) (reads (D.past second)) zone.brief) }
+        ensures current { D.tells → IfOk result (λ zone. IsCurrent
+            (reads (D.past first)) (reads (D.past second)) zone.second zone.generation) }
         ensures limits { IfOk result (λ zone. zone.limits ≡ limits) }
         ensures fault { D.tells → IfErr result (λ refusal.
             HasPairFault (reads (D.past first)) (reads (D.past second)) limits refusal.fault) }
 
         // What becomes of the disks that are handed back.
+        ensures failed { IfErr result (λ refusal. FailsAtOne refusal.fault) }
         ensures first_refused { IfErr result (λ refusal. RefusedDisk D.Disk
             (refusal.fault ≡ PairFault.Failed (number_of false)) first refusal.first) }
         ensures second_refused { IfErr result (λ refusal. RefusedDisk D.Disk
@@ -307,6 +334,33 @@ impl<D: Disk> PairedZone<D> {
                 Err(DataFault::OutOfMemory) => TakeAnswer::OutOfMemory,
             },
             refused => refused,
+        }
+    }
+
+    /// Writes a checkpoint of what it keeps into the other file, where it stands alone, and which is
+    /// current then. Both files are settled before. The patches taken needn't be read again; what
+    /// is kept stays as it was, whatever is answered.
+    pub fn checkpoint(&mut self) -> CheckEnd
+        ensures { MakesCheckpoint D.Disk self.old self.new result }
+    {
+        let generation = self.files.generation();
+        if generation == u64::MAX {
+            return CheckEnd::TooLarge {
+                length: generation,
+                limit: generation,
+            };
+        }
+        match make_checkpoint(self.alloc, generation + 1, &self.kept) {
+            Ok(payload) => {
+                let written = self.files.renew(&payload);
+                settle_where(&mut self.doubt, self.files.current.is_settled());
+                end_of(written, self.kept.ids.len())
+            }
+            Err(MakeFault::TooLong { length }) => CheckEnd::TooLarge {
+                length,
+                limit: CHECKPOINT_FILE_LIMIT,
+            },
+            Err(MakeFault::OutOfMemory) => CheckEnd::OutOfMemory,
         }
     }
 

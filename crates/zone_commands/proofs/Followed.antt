@@ -1,19 +1,19 @@
--- From what catching up comes to on a zone's disk to what it comes to for its file.
-use Rattle.std.proofs.Common.{◌≡◌, ◌≢◌, inl, inr, ⊎_elim, ℕ, List, [], ◌∷◌, ◌++◌, Option, Some, None, Result, Ok, Err, IfOk, length, refl, sym, ap, subst, ◌∙◌}
-use Rattle.std.proofs.lemmas.List.{length-map}
+-- From what catching up comes to on a zone's disks to what it comes to for its files.
+use Rattle.std.proofs.Common.{◌≡◌, ◌≢◌, inl, inr, ℕ, List, [], ◌∷◌, Option, Some, None, Result, Ok, Err, IfOk, length, refl, sym, ap, subst, ◌∙◌}
+use Rattle.std.specs.Prelude.{if◌then◌else◌}
 use Rattle.log_base.specs.declared.limits.LogLimits.{LogLimits}
 use Rattle.log_base.specs.declared.limits.TheConstants.{LOG_LIMITS}
 use Rattle.disk_model.specs.declared.disk.Disk.{Ghosts}
-use Rattle.disk_model.specs.Past.{Past, MayLeave, reads}
-use Rattle.log_journal.specs.File.{Holds}
-use Rattle.log_journal.proofs.Steps.{either}
-use Rattle.dataset_tx.specs.Held.{AreMet}
+use Rattle.disk_model.specs.Past.{MayLeave, reads}
 use Rattle.rdf_terms.specs.declared.term.Term.{Term}
-use Rattle.patch_meaning.specs.Checked.{CheckedPatch, checked_texts}
-use Rattle.zone_state.specs.Brief.{Brief, brief_of, changes_taken, file_length, id_taken}
-use Rattle.zone_state.specs.Zone.{ZoneView, AreTakenPatches, StandsForZone, zone_number}
-use Rattle.zone_state.specs.declared.fault.ZoneFault.{ZoneFault}
-use Rattle.zone_state.proofs.Growing.{texts-push}
+use Rattle.patch_meaning.specs.Checked.{CheckedPatch}
+use Rattle.checkpoint_text.specs.Brief.{Brief}
+use Rattle.zone_pairs.specs.Briefs.{with_patch}
+use Rattle.zone_pairs.specs.Pair.{ZoneHolds}
+use Rattle.zone_state.specs.Zone.{ZoneView}
+use Rattle.paired_zone.specs.Opening.{IsOpened}
+use Rattle.paired_zone.specs.Zone.{PairedView, first_in, second_in}
+use Rattle.paired_zone.specs.declared.fault.PairFault.{PairFault}
 use Rattle.delta_client.specs.Exchanges.{Exchanged, DialView, WasSaid}
 use Rattle.catch_up.specs.declared.end.RunEnd.{RunEnd}
 use Rattle.follower.specs.declared.ends.SyncEnd.{SyncEnd}
@@ -21,10 +21,13 @@ use Rattle.follower.specs.declared.ends.SyncEnd.TheVariants.{CaughtUp, NoSuchNam
 use Rattle.follower.specs.declared.ends.TextRefusal.{TextRefusal}
 use Rattle.follower.specs.declared.ends.TextRefusal.TheVariants as texts
 use Rattle.follower.specs.Calls.{calls_of}
-use Rattle.follower.specs.Grown.{GrewBy, LeftInDoubt, WasTried, ZoneStands, as_before, none, tried_last, untried, was_next}
+use Rattle.follower.specs.Footing.{further, on_pair, two_files, with_patches}
+use Rattle.follower.specs.Grown.{GrewBy, LeftInDoubt, WasTried, as_before, none, tried_last, untried, was_next}
 use Rattle.follower.specs.Syncing.{RefusesText, NextEnds, refused, answered, faulty, not_asked, RunEnds, unanswered, compared, stopped, caught_up, EndIs}
-use Rattle.zone_commands.specs.Files.{IsZoneFile}
-use Rattle.zone_commands.specs.Following.{Followed, IsLeftFile, zone_of}
+use Rattle.zone_commands.specs.Files.{AreZoneFiles}
+use Rattle.zone_commands.specs.Following.{AreLeftFiles, Followed, zone_of}
+use Rattle.zone_commands.proofs.Held.{AreLeft, left_files}
+use Rattle.zone_commands.proofs.Opened.{opened_within}
 
 -- ---- the patch left in doubt
 
@@ -88,85 +91,76 @@ module _ {D : Type 0} where
     tried_seen tried (untried nothing) = untried nothing
     tried_seen tried (was_next next is fetched can) = was_next next is fetched can
 
-  seen_as : (zone : ZoneView D) (taken : List CheckedPatch) → zone.brief ≡ brief_of taken → zone.limits ≡ LOG_LIMITS → seen zone ≡ zone_of taken zone.terms
-  seen_as zone taken brief limits =
-      ap (λ (b : Brief). record { brief = b; terms = zone.terms; doubt = None; limits = zone.limits; disk = tt }) brief
-      ∙ ap (λ (l : LogLimits). record { brief = brief_of taken; terms = zone.terms; doubt = None; limits = l; disk = tt }) limits
+  seen_as : (zone : ZoneView D) (brief : Brief) → zone.brief ≡ brief → zone.limits ≡ LOG_LIMITS → seen zone ≡ zone_of brief zone.terms
+  seen_as zone brief same limits =
+      ap (λ (b : Brief). record { brief = b; terms = zone.terms; doubt = None; limits = zone.limits; disk = tt }) same
+      ∙ ap (λ (l : LogLimits). record { brief = brief; terms = zone.terms; doubt = None; limits = l; disk = tt }) limits
 
-  pub end_of_zone : (old new : ZoneView D) (taken all : List CheckedPatch) (said : List WasSaid) (more : List CheckedPatch) (end : SyncEnd)
-      → old.brief ≡ brief_of taken → old.limits ≡ LOG_LIMITS → new.brief ≡ brief_of all → new.limits ≡ LOG_LIMITS
-      → EndIs old new said more end → EndIs (zone_of taken old.terms) (zone_of all new.terms) said more end
-  end_of_zone old new taken all said more end old_brief old_limits new_brief new_limits is =
-      subst (λ (z : ZoneView (Unit {0})). EndIs z (zone_of all new.terms) said more end) (seen_as old taken old_brief old_limits)
+  pub end_of_zone : (old new : ZoneView D) (brief all : Brief) (said : List WasSaid) (more : List CheckedPatch) (end : SyncEnd)
+      → old.brief ≡ brief → old.limits ≡ LOG_LIMITS → new.brief ≡ all → new.limits ≡ LOG_LIMITS
+      → EndIs old new said more end → EndIs (zone_of brief old.terms) (zone_of all new.terms) said more end
+  end_of_zone old new brief all said more end old_brief old_limits new_brief new_limits is =
+      subst (λ (z : ZoneView (Unit {0})). EndIs z (zone_of all new.terms) said more end) (seen_as old brief old_brief old_limits)
       (subst (λ (z : ZoneView (Unit {0})). EndIs (seen old) z said more end) (seen_as new all new_brief new_limits) (end_seen old new said more end is))
 
-  pub tried_of_zone : (old new : ZoneView D) (all : List CheckedPatch) (said : List WasSaid) (more tried : List CheckedPatch) → new.brief ≡ brief_of all → new.limits ≡ LOG_LIMITS → WasTried new more said tried → WasTried (zone_of all new.terms) more said tried
+  pub tried_of_zone : (old new : ZoneView D) (all : Brief) (said : List WasSaid) (more tried : List CheckedPatch) → new.brief ≡ all → new.limits ≡ LOG_LIMITS → WasTried new more said tried → WasTried (zone_of all new.terms) more said tried
   tried_of_zone old new all said more tried brief limits is =
       subst (λ (z : ZoneView (Unit {0})). WasTried z more said tried) (seen_as new all brief limits) (tried_seen old new said more tried is)
 
-  -- ---- what its disk reads is its file
+-- ---- a zone was opened, caught up and was closed
 
-  pub file_read : (tells : Type 0) (past : Past) (zone : ZoneView D) (taken : List CheckedPatch) → zone.limits ≡ LOG_LIMITS → StandsForZone tells past zone taken None → tells → MayLeave past (reads past) → IsZoneFile (reads past) taken
-  file_read tells past zone taken limits stands tell left = record {
-    holds = (stands.on_disk tell).each (reads past) left;
-    chain = subst (λ (l : LogLimits). AreTakenPatches l taken) limits stands.without;
-  }
+module _ {D L : Type 0} (disks : Ghosts D) (net_tells : Type 0) (left sent : L → Option (List ℕ)) (address name : List ℕ) (net net' : DialView L) where
+  abbrev what : D → List ℕ
+  what disk = reads (disks.past disk)
 
-  pub file_left : (tells : Type 0) (past : Past) (zone : ZoneView D) (taken more tried : List CheckedPatch) (before doubt : Option CheckedPatch) (end : SyncEnd) → before ≡ None → LeftInDoubt before zone.doubt more tried → zone.limits ≡ LOG_LIMITS
-      → StandsForZone tells past zone taken doubt → (end ≢ DiskFault → zone.doubt ≡ None) → tells → MayLeave past (reads past) → IsLeftFile (reads past) taken tried end
-  file_left tells past zone taken more tried before None end nothing left_is limits stands well tell left = inl (file_read tells past zone taken limits stands tell left)
-  file_left tells past zone taken more tried before (Some doubt) end nothing left_is limits stands well tell left =
-      let all = stands.on_disk tell in
-      let within = subst (λ (l : LogLimits). AreTakenPatches l taken) limits stands.without in
-      let having = subst (λ (l : LogLimits). AreTakenPatches l (taken ++ doubt ∷ [])) limits stands.having in
-      ⊎_elim
-      (λ without. inl (record { holds = without; chain = within }))
-      (λ having_it.
-      inr (
-        doubtful end doubt zone.doubt stands.doubt_is well,
-        (doubt, is_tried before zone.doubt more tried doubt nothing stands.doubt_is left_is, record { holds = subst (λ (ts : List (List ℕ)). Holds (reads past) zone_number ts) (sym (texts-push taken doubt)) having_it; chain = having }),
-      ))
-      (either (file_length zone.brief.ids zone.brief.bytes) zone_number (checked_texts taken) doubt.text all.doubt_sized all.few (reads past) all.sized (all.each (reads past) left))
+  -- the files that are left, and the patch that may stand in them
+  left_so : (first second : List ℕ) (brief all : Brief) (before doubt : Option CheckedPatch) (more tried : List CheckedPatch) (end : SyncEnd) → brief ≡ all → before ≡ None → LeftInDoubt before doubt more tried → (end ≢ DiskFault → doubt ≡ None)
+      → AreLeft first second brief doubt → AreLeftFiles first second all tried end
+  left_so first second brief all before doubt more tried end same nothing left_is well (inl files) = inl (subst (AreZoneFiles first second) same files)
+  left_so first second brief all before doubt more tried end same nothing left_is well (inr (one, is, files)) =
+      inr (doubtful end one doubt is well, (one, is_tried before doubt more tried one nothing is left_is, subst (λ (b : Brief). AreZoneFiles first second (with_patch b one)) same files))
 
-module _ {D L : Type 0} (disks : Ghosts D) (net_tells : Type 0) (left sent : L → Option (List ℕ)) (address name file : List ℕ) (net net' : DialView L) where
-  -- a zone was opened, caught up and was closed
-  pub of_disk : (old new : ZoneView D) (end : SyncEnd)
-      → (taken : List CheckedPatch) × StandsForZone disks.tells (disks.past old.disk) old taken None × AreMet (changes_taken taken) [] old.terms × (disks.tells → Holds file zone_number (checked_texts taken))
-      → old.limits ≡ LOG_LIMITS → new.limits ≡ old.limits → (old.doubt ≡ None → end ≢ DiskFault → new.doubt ≡ None)
-      → (said : List WasSaid) × (more : List CheckedPatch) × GrewBy disks old new more said × EndIs old new said more end
+  pub of_disks : (first second : D) (old new : PairedView D) (end : SyncEnd)
+      → IsOpened disks (if old.second then second else first) (if old.second then first else second) old → old.limits ≡ LOG_LIMITS → (disks.tells → ZoneHolds (what first) (what second) old.brief)
+      → new.limits ≡ old.limits → (old.doubt ≡ None → end ≢ DiskFault → new.doubt ≡ None)
+      → (said : List WasSaid) × (more : List CheckedPatch) × GrewBy (two_files disks) (on_pair old) (on_pair new) more said × EndIs (on_pair old) (on_pair new) said more end
       × (net_tells → Exchanged left sent address (calls_of name (length old.brief.ids) said) said None net net')
-      → (disk : D) → disk ≡ new.disk → ((d : D) → disks.tells → MayLeave (disks.past d) (reads (disks.past d))) → Followed left sent disks.tells net_tells address name file (reads (disks.past disk)) net net' end
-  of_disk old new end found old_limits new_limits settled follows disk is may =
-      let nothing = found.1.doubt_is in
-      let stood : ZoneStands disks old found.0 = subst (λ (doubt : Option CheckedPatch). StandsForZone disks.tells (disks.past old.disk) old found.0 doubt) (sym nothing) found.1 in
-      let grown = follows.2.took found.0 stood in
-      let limits = new_limits ∙ old_limits in
-      let count : length old.brief.ids ≡ length found.0 = ap (λ (b : Brief). length b.ids) found.1.brief_is ∙ length-map found.0 id_taken in
-      subst (λ (d : D). Followed left sent disks.tells net_tells address name file (reads (disks.past d)) net net' end) (sym is) (record {
-        taken = found.0;
-        more = follows.1;
-        tried = follows.2.tried;
-        was = λ tell. record { holds = found.3 tell; chain = subst (λ (l : LogLimits). AreTakenPatches l found.0) old_limits found.1.without };
-        is = λ tell. file_left disks.tells (disks.past new.disk) new (found.0 ++ follows.1) follows.1 follows.2.tried old.doubt new.doubt end nothing follows.2.left_is limits grown (settled nothing) tell (may new.disk tell);
+      → ((d : D) → disks.tells → MayLeave (disks.past d) (reads (disks.past d))) → (first' second' : D) → first' ≡ first_in new → second' ≡ second_in new
+      → Followed left sent disks.tells net_tells address name (what first) (what second) (what first') (what second') net net' end
+  of_disks first second old new end opened old_limits held same_limits settled follows may first' second' is_first is_second =
+      let grew = follows.2 in
+      let more = follows.1 in
+      let limits = same_limits ∙ old_limits in
+      let stands = grew.took opened.point opened.stands in
+      subst (λ d. Followed left sent disks.tells net_tells address name (what first) (what second) (what d) (what second') net net' end) (sym is_first)
+      (subst (λ d. Followed left sent disks.tells net_tells address name (what first) (what second) (what (first_in new)) (what d) net net' end) (sym is_second) (record {
+        brief = old.brief;
+        more = more;
+        tried = grew.tried;
+        was = λ tell. record { hold = held tell; within = opened_within disks first second old opened old_limits };
+        checked = grew.checked;
+        is = λ tell. left_so (what (first_in new)) (what (second_in new)) new.brief (with_patches old.brief more) old.doubt new.doubt more grew.tried end grew.brief opened.settled grew.left_is (settled opened.settled)
+            (left_files disks new (further (two_files disks) opened.point more new.doubt) stands limits tell (λ d. may d tell));
         met = old.terms;
         met' = new.terms;
-        are_met = found.2;
+        are_met = record { start = opened.point.start; patches = opened.point.patches; take = opened.stands.stands.take; met = opened.met };
         said = follows.0;
-        was_tried = tried_of_zone old new (found.0 ++ follows.1) follows.0 follows.1 follows.2.tried grown.brief_is limits follows.2.was_tried;
-        ended = end_of_zone old new found.0 (found.0 ++ follows.1) follows.0 follows.1 end found.1.brief_is old_limits grown.brief_is limits follows.3;
-        asked = λ tell. subst (λ (n : ℕ). Exchanged left sent address (calls_of name n follows.0) follows.0 None net net') count (follows.4 tell);
-      })
+        was_tried = tried_of_zone (on_pair old) (on_pair new) (with_patches old.brief more) follows.0 more grew.tried grew.brief limits grew.was_tried;
+        ended = end_of_zone (on_pair old) (on_pair new) old.brief (with_patches old.brief more) follows.0 more end refl old_limits grew.brief limits follows.3;
+        asked = follows.4;
+      }))
 
--- a file of a shelf is what its disk read
-module _ {L : Type 0} (left sent : L → Option (List ℕ)) (tells shelf_tells net_tells : Type 0) (tell : shelf_tells → tells) (address name file file' bytes bytes' : List ℕ) (net net' : DialView L) where
-  pub of_shelf : (result : Result SyncEnd ZoneFault) → (shelf_tells → file ≡ bytes) → (shelf_tells → file' ≡ bytes')
-      → IfOk result (Followed left sent tells net_tells address name file file' net net') → IfOk result (Followed left sent shelf_tells net_tells address name bytes bytes' net net')
-  of_shelf (Ok end) was is came = record {
-    taken = came.taken;
+-- files of a shelf are what their disks read
+module _ {L : Type 0} (left sent : L → Option (List ℕ)) (tells shelf_tells net_tells : Type 0) (tell : shelf_tells → tells) (address name : List ℕ) (net net' : DialView L) where
+  pub of_shelf : (first second first' second' a b a' b' : List ℕ) (result : Result SyncEnd PairFault) → (shelf_tells → first ≡ a) → (shelf_tells → second ≡ b) → (shelf_tells → first' ≡ a') → (shelf_tells → second' ≡ b')
+      → IfOk result (Followed left sent tells net_tells address name first second first' second' net net') → IfOk result (Followed left sent shelf_tells net_tells address name a b a' b' net net')
+  of_shelf first second first' second' a b a' b' (Ok end) was_first was_second is_first is_second came = record {
+    brief = came.brief;
     more = came.more;
     tried = came.tried;
-    was = λ yes. subst (λ (f : List ℕ). IsZoneFile f came.taken) (was yes) (came.was (tell yes));
-    is = λ yes. subst (λ (f : List ℕ). IsLeftFile f (came.taken ++ came.more) came.tried end) (is yes) (came.is (tell yes));
+    was = λ yes. subst (λ (f : List ℕ). AreZoneFiles f b came.brief) (was_first yes) (subst (λ (f : List ℕ). AreZoneFiles first f came.brief) (was_second yes) (came.was (tell yes)));
+    checked = came.checked;
+    is = λ yes. subst (λ (f : List ℕ). AreLeftFiles f b' (with_patches came.brief came.more) came.tried end) (is_first yes) (subst (λ (f : List ℕ). AreLeftFiles first' f (with_patches came.brief came.more) came.tried end) (is_second yes) (came.is (tell yes)));
     met = came.met;
     met' = came.met';
     are_met = came.are_met;
@@ -175,4 +169,4 @@ module _ {L : Type 0} (left sent : L → Option (List ℕ)) (tells shelf_tells n
     ended = came.ended;
     asked = came.asked;
   }
-  of_shelf (Err fault) was is came = tt
+  of_shelf first second first' second' a b a' b' (Err fault) was_first was_second is_first is_second came = tt

@@ -1,2 +1,6 @@
+mod Taken
+mod Opened
+mod Held
+mod Checkpoints
 mod Followed
 mod Fronts

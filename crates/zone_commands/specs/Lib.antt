@@ -1,4 +1,6 @@
 pub mod Readings
 pub mod Words
+pub mod Disks
 pub mod Files
+pub mod Checkpoints
 pub mod Following

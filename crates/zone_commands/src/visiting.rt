@@ -1,30 +1,31 @@
-//! Visits to the file of a zone, whose disk is put back.
-ghost use Rattle.std.specs.Prelude.{◌≡◌, ◌≤◌, ◌<◌, IfOk, IfErr, IsErrOf, Some};
+//! Visits to the files of a zone, whose disks are put back.
+ghost use Rattle.std.specs.Prelude.{◌≡◌, ℕ, ◌≤◌, ◌<◌, true, false, IfOk, IfErr, IsErrOf};
 ghost use Rattle.delta_base.specs.Outside.{Rose};
 ghost use Rattle.log_base.specs.declared.limits.TheConstants.{LOG_LIMITS};
 ghost use Rattle.disk_model.specs.Past.{reads};
-ghost use Rattle.disk_model.specs.Shelf.{SameOthers};
-ghost use Rattle.slot_files.specs.Files.{IsKept, bytes_at};
-ghost use Rattle.zone_state.specs.Fault.{HasZoneFault};
-ghost use Rattle.zone_state.specs.Zone.{zone_number};
-ghost use Rattle.zone_commands.specs.Files.{HasZoneLines};
+ghost use Rattle.zone_files.specs.Generation.{number_of};
+ghost use Rattle.paired_zone.specs.Fault.{HasPairFault};
+ghost use Rattle.paired_zone.specs.Opening.{FailsAtOne, RefusedDisk};
+ghost use Rattle.zone_commands.specs.Disks.{KeepsZoneFiles, first_bytes, second_bytes};
+ghost use Rattle.zone_commands.specs.Files.{HasFilesFault, HasZoneLines};
 ghost use Rattle.zone_commands.specs.Readings.{lines_read};
 
+use crate::disks::{put_back_disks, take_disks};
 use crate::reading::Reading;
 use dataset_tx::Pattern;
 use delta_base::{OutOfMemory, Text};
-use disk_model::{Disk, Shelf, ShelfFault};
+use disk_model::{Disk, Shelf};
 use line_log::MadeLines;
 use log_base::LOG_LIMITS;
+use paired_zone::{PairFault, PairRefusal, PairedZone};
 use quad_index::Steps;
 use std::alloc::Global;
 use std::marker::Brand;
 use std::sync::ledger::{Blank, Ledger};
-use zone_state::{ZONE_NUMBER, Zone, ZoneFault, ZoneRefusal};
 
 // The lines of the quads that match.
 fn matching<D: Disk, L: Ledger>(
-    zone: &mut Zone<D>,
+    zone: &mut PairedZone<D>,
     pattern: &Pattern,
     blank: Blank,
 ) -> Result<MadeLines, OutOfMemory>
@@ -40,7 +41,7 @@ fn matching<D: Disk, L: Ledger>(
 }
 
 // What is read of the dataset of a zone.
-fn lines_of<D: Disk>(zone: &mut Zone<D>, reading: &Reading) -> Result<MadeLines, OutOfMemory>
+fn lines_of<D: Disk>(zone: &mut PairedZone<D>, reading: &Reading) -> Result<MadeLines, OutOfMemory>
     ensures lines { IfOk result (λ lines.
         lines ≡ lines_read reading.now zone.old.brief.contents) }
     ensures same { zone.new ≡ zone.old }
@@ -52,60 +53,67 @@ fn lines_of<D: Disk>(zone: &mut Zone<D>, reading: &Reading) -> Result<MadeLines,
     }
 }
 
-/// What is read of the file of a zone, and its disk.
-pub fn read_zone_file<D: Disk>(
+/// What is read of the two files of a zone, and their disks.
+pub fn read_files<D: Disk>(
     alloc: Global,
-    disk: D,
+    first: D,
+    second: D,
     reading: &Reading,
-) -> (D, Result<MadeLines, ZoneFault>)
-    ensures ok { D.tells
-        → IfOk result.1 (λ lines. HasZoneLines (reads (D.past disk)) reading.now lines) }
-    ensures fault { D.tells → IfErr result.1 (HasZoneFault (reads (D.past disk)) LOG_LIMITS) }
-    ensures kept { D.tells → reads (D.past result.0) ≡ reads (D.past disk) }
-    ensures cause { IsErrOf result.1 ZoneFault.Failed → Rose (D.faults disk) (D.faults result.0) }
-    ensures mark { D.mark result.0 ≡ D.mark disk }
+) -> (D, D, Result<MadeLines, PairFault>)
+    ensures ok { D.tells → IfOk result.2 (λ lines. HasZoneLines
+        (reads (D.past first)) (reads (D.past second)) reading.now lines) }
+    ensures fault { D.tells → IfErr result.2
+        (HasPairFault (reads (D.past first)) (reads (D.past second)) LOG_LIMITS) }
+    ensures failed { IfErr result.2 FailsAtOne }
+    ensures first { RefusedDisk D.Disk
+        (IsErrOf result.2 (PairFault.Failed (number_of false))) first result.0 }
+    ensures second { RefusedDisk D.Disk
+        (IsErrOf result.2 (PairFault.Failed (number_of true))) second result.1 }
 {
-    match Zone::open_on(alloc, disk, LOG_LIMITS) {
+    match PairedZone::open_pair(alloc, first, second, LOG_LIMITS) {
         Ok(zone) => {
             let mut zone = zone;
             let lines = lines_of(&mut zone, reading);
-            let disk = zone.close();
+            let (first, second) = zone.close();
             match lines {
-                Ok(lines) => (disk, Ok(lines)),
-                Err(OutOfMemory) => (disk, Err(ZoneFault::OutOfMemory)),
+                Ok(lines) => (first, second, Ok(lines)),
+                Err(OutOfMemory) => (first, second, Err(PairFault::OutOfMemory)),
             }
         }
-        Err(ZoneRefusal { disk, fault }) => (disk, Err(fault)),
+        Err(
+            PairRefusal {
+                first,
+                second,
+                fault,
+            },
+        ) => (first, second, Err(fault)),
     }
 }
 
-/// What is read of the zone of a directory. Its file is left as it was, and no other is asked for.
+/// What is read of the zone of a directory. Its files are left as they were, and no other is asked
+/// for.
 pub fn read_zone<H: Shelf>(
     alloc: Global,
     shelf: &mut H,
     dir: &Text,
     reading: &Reading,
-) -> Result<MadeLines, ZoneFault>
-    ensures ok { H.tells → IfOk result
-        (λ lines.
-        HasZoneLines (bytes_at (H.files shelf.old) dir.now zone_number) reading.now lines) }
-    ensures fault { H.tells → IfErr result
-        (HasZoneFault (bytes_at (H.files shelf.old) dir.now zone_number) LOG_LIMITS) }
-    ensures kept { H.tells → IsKept (H.files shelf.old dir.now zone_number)
-        (H.files shelf.new dir.now zone_number) }
-    ensures others { H.tells → SameOthers (Some (dir.now, zone_number))
-        (H.files shelf.old) (H.files shelf.new) }
-    ensures cause { IsErrOf result ZoneFault.Failed
+) -> Result<MadeLines, PairFault>
+    ensures ok { H.tells → IfOk result (λ lines. HasZoneLines
+        (first_bytes (H.files shelf.old) dir.now) (second_bytes (H.files shelf.old) dir.now)
+        reading.now lines) }
+    ensures fault { H.tells → IfErr result (HasFilesFault
+        (first_bytes (H.files shelf.old) dir.now) (second_bytes (H.files shelf.old) dir.now)) }
+    ensures kept { H.tells → KeepsZoneFiles dir.now (H.files shelf.old) (H.files shelf.new) }
+    ensures cause { (file : ℕ) → IsErrOf result (PairFault.Failed file)
         → Rose (H.faults shelf.old) (H.faults shelf.new) }
     ensures faults { H.faults shelf.old ≤ H.faults shelf.new }
 {
-    match shelf.disk(dir, ZONE_NUMBER) {
-        Ok(disk) => {
-            let (disk, answer) = read_zone_file(alloc, disk, reading);
-            shelf.put_back(disk);
+    match take_disks(shelf, dir) {
+        Ok((first, second)) => {
+            let (first, second, answer) = read_files(alloc, first, second, reading);
+            put_back_disks(shelf, first, second);
             answer
         }
-        Err(ShelfFault::Failed) => Err(ZoneFault::Failed),
-        Err(ShelfFault::OutOfMemory) => Err(ZoneFault::OutOfMemory),
+        Err(fault) => Err(fault),
     }
 }

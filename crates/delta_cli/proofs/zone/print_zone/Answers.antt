@@ -17,5 +17,5 @@ returns-in-Err-clause-stopped g c =
     let old = shelf_view g.H.Shelf c.args.shelf.now in
     let new = shelf_view g.H.Shelf c.read_zone.new.shelf in
     let out = output_view g.K.Sink c.args.out.now in
-    subst (StopsZone c.args.dir.now c.args.reading.now g.H.Shelf.tells old new out out) (sym c.of_zone.ensures)
+    subst (StopsZone c.args.dir.now c.args.reading.now g.H.Shelf.tells old new out out) (sym c.of_pair.ensures)
     (reading_stops c.args.dir.now g.H.Shelf.tells old new c.args.reading.now out c.read_zone.result c.in-Err.fault c.in-Err.is c.in-Err.ensures.fault c.read_zone.ensures.cause)
