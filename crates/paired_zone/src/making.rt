@@ -127,11 +127,7 @@ fn text_within(
 }
 
 /// The checkpoint of a generation, as a payload that is to stand alone.
-pub fn make_checkpoint(
-    alloc: Global,
-    generation: u64,
-    kept: &Kept,
-) -> Result<OnePayload, MakeFault>
+pub fn make_checkpoint(alloc: Global, generation: u64, kept: &Kept) -> Result<OnePayload, MakeFault>
     requires { kept.now.contents.staged ≡ None }
     ensures text { IfOk result (λ payload. payload ≡ checkpoint generation (brief_in kept.now)) }
     ensures within { OnOk result
