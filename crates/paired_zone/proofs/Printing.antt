@@ -14,7 +14,7 @@ use Rattle.patch_rows.specs.Printing.{row_text}
 use Rattle.dataset_tx.specs.Prefixes.{prefix_change}
 use Rattle.log_base.specs.declared.limits.TheConstants.{LOG_BYTES}
 use Rattle.checkpoint_line.specs.declared.first.FirstLine.{FirstLine}
-use Rattle.checkpoint_line.specs.First.{first_line}
+use Rattle.checkpoint_line.specs.First.{first_line, AreCounts}
 use Rattle.checkpoint_text.specs.Brief.{Brief}
 use Rattle.checkpoint_text.specs.Text.{checkpoint, line_of_id, prefix_rows, first_line_of, text_of_parts, Setting, setting_line, IsSetting, IsCheckpoint}
 use Rattle.checkpoint_text.proofs.Items.{All-from_contains}
@@ -32,6 +32,11 @@ first_as generation brief patches prefixes quads rows lines v p q r l =
     ap (λ (n : ℕ). let f : FirstLine = record { generation = generation; patches = n; bytes = brief.bytes; prefixes = prefixes; quads = quads } in f) v
     ∙ ap (λ (n : ℕ). let f : FirstLine = record { generation = generation; patches = length brief.ids; bytes = brief.bytes; prefixes = n; quads = quads } in f) (p ∙ ap length r)
     ∙ ap (λ (n : ℕ). let f : FirstLine = record { generation = generation; patches = length brief.ids; bytes = brief.bytes; prefixes = length (prefix_rows brief.contents); quads = n } in f) (q ∙ ap length l ∙ length-map brief.contents.quads line)
+
+pub counts_of : (generation : ℕ) (brief : Brief) (patches prefixes quads : ℕ) (rows lines : List (List ℕ)) → patches ≡ length brief.ids → prefixes ≡ length rows → quads ≡ length lines → rows ≡ prefix_rows brief.contents → lines ≡ map line brief.contents.quads
+    → generation < 2 ^ 64 → patches < 2 ^ 64 → brief.bytes < 2 ^ 64 → prefixes < 2 ^ 64 → quads < 2 ^ 64 → AreCounts (first_line_of generation brief)
+counts_of generation brief patches prefixes quads rows lines v p q r l a b c d e =
+    subst AreCounts (first_as generation brief patches prefixes quads rows lines v p q r l) (record { generation = a; patches = b; bytes = c; prefixes = d; quads = e })
 
 -- these rows and lines behind it
 pub text_as : (generation : ℕ) (brief : Brief) (first : FirstLine) (rows lines : List (List ℕ)) → first ≡ first_line_of generation brief → rows ≡ prefix_rows brief.contents → lines ≡ map line brief.contents.quads → text_of_parts first brief.ids rows lines ≡ checkpoint generation brief
