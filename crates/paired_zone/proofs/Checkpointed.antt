@@ -1,6 +1,6 @@
 -- What making a checkpoint comes to, by its answer.
-use Rattle.std.proofs.Common.{◌≡◌, ◌≢◌, ◌⊎◌, inl, inr, ℕ, ◌+◌, ◌-◌, ◌^◌, ◌<◌, ◌≤◌, Bool, List, length, Option, Some, None, Result, Ok, Err, refl, sym, ◌∙◌, ap, subst, arith}
-use Rattle.std.specs.Prelude.{not, min, IsErrOf}
+use Rattle.std.proofs.Common.{◌≡◌, ◌≢◌, ◌⊎◌, inl, inr, ℕ, ◌+◌, ◌-◌, ◌^◌, ◌<◌, ◌≤◌, length, Option, None, Result, Ok, Err, refl, sym, ◌∙◌, ap, subst, arith}
+use Rattle.std.specs.Prelude.{not, IsErrOf}
 use Rattle.disk_model.specs.declared.disk.Disk.{Ghosts}
 use Rattle.disk_model.specs.Past.{LeavesOnly}
 use Rattle.disk_model.proofs.Moments.{starts}
@@ -18,7 +18,7 @@ use Rattle.zone_state.specs.State.{brief_in}
 use Rattle.paired_reading.specs.declared.limit.TheConstants.{CHECKPOINT_FILE_LIMIT}
 use Rattle.paired_journal.specs.Pair.{DisksWent}
 use Rattle.paired_journal.specs.declared.files.Files.{Files}
-use Rattle.paired_journal.specs.Files.{beside_of, on_second, generation_of, HasRenewed}
+use Rattle.paired_journal.specs.Files.{beside_of, generation_of, HasRenewed}
 use Rattle.paired_journal.proofs.Pairs.{as_failed}
 use Rattle.paired_zone.specs.declared.answer.CheckEnd.{CheckEnd}
 use Rattle.paired_zone.specs.declared.answer.CheckEnd.TheVariants.{Done, TooLarge, DiskFault, OutOfMemory}
@@ -27,7 +27,7 @@ use Rattle.paired_zone.specs.Large.{length_alone, ArePrintable, IsTooLarge, no_l
 use Rattle.paired_zone.specs.State.{view_of, IsPairKept}
 use Rattle.paired_zone.specs.Zone.{PairedView, StandsAt}
 use Rattle.paired_zone.proofs.Renewed.{same_current, same_other, same_or_none, made_beside, has_checkpoint, disks_went}
-use Rattle.paired_zone.proofs.Standing.{file_images, stands_at}
+use Rattle.paired_zone.proofs.Standing.{file_images}
 use Rattle.paired_zone.proofs.Taking.{none_went}
 
 -- ---- what is too large

@@ -1,32 +1,31 @@
 -- A zone on two files as it was opened.
-use Rattle.std.proofs.Common.{◌≡◌, ◌⊎◌, inl, inr, ⊎_elim, ℕ, ◌+◌, ◌^◌, ◌<◌, ◌≤◌, Bool, true, false, cond, List, [], ◌∷◌, ◌++◌, length, Option, Some, None, refl, sym, ◌∙◌, ap, subst, arith, length-append}
+use Rattle.std.proofs.Common.{◌≡◌, inl, inr, ⊎_elim, ℕ, ◌+◌, ◌^◌, ◌<◌, ◌≤◌, Bool, true, false, cond, List, [], ◌∷◌, length, Option, Some, None, refl, sym, ◌∙◌, ap, subst, arith, length-append}
 use Rattle.std.specs.Prelude.{if◌then◌else◌, not, sum_by}
-use Rattle.std.proofs.lemmas.List.Sums.{sum_by-append, sum_by-cons}
+use Rattle.std.proofs.lemmas.List.Sums.{sum_by-cons}
 use Rattle.log_base.specs.Journals.{payloads_length}
 use Rattle.log_base.specs.declared.limits.LogLimits.{LogLimits}
 use Rattle.log_base.specs.declared.limits.TheConstants.{PAYLOAD_FRAME, LOG_BYTES, ZONE_FILE_LIMIT}
 use Rattle.disk_model.specs.declared.disk.Disk.{Ghosts}
-use Rattle.disk_model.specs.Past.{Past, MayLeave, EveryImage, LeavesOnly, Keeps, reads}
+use Rattle.disk_model.specs.Past.{Past, MayLeave, Keeps, reads}
 use Rattle.delta_base.specs.Outside.{Rose}
 use Rattle.disk_model.proofs.Moments.{weaker, joined, leaves}
 use Rattle.log_journal.specs.File.{Holds}
 use Rattle.log_journal.specs.StandsFor.{StandsFor, length_of, limit_of, disk_of}
 use Rattle.log_journal.specs.Written.{Reopened, RefusedOpening}
 use Rattle.log_journal.specs.declared.journal.Journal.{Journal}
-use Rattle.patch_meaning.specs.Checked.{CheckedPatch, AreChecked, checked_texts}
+use Rattle.patch_meaning.specs.Checked.{CheckedPatch, checked_texts}
 use Rattle.checkpoint_text.specs.Brief.{Brief, file_length}
 use Rattle.checkpoint_text.specs.Text.{checkpoint, IsCheckpoint}
-use Rattle.zone_files.specs.Generation.{number_of, unmarked, IsInGeneration, PayloadsShow, is_later}
+use Rattle.zone_files.specs.Generation.{number_of, unmarked, IsInGeneration, PayloadsShow}
 use Rattle.zone_beside.specs.Finding.{IsCurrent}
 use Rattle.zone_beside.specs.StandsBehind.{StandsBehind}
 use Rattle.zone_beside.specs.declared.beside.Beside.{Beside}
 use Rattle.zone_pairs.specs.Briefs.{with_patch}
-use Rattle.zone_pairs.specs.Pair.{PairPoint, payloads_at, start_texts, start_brief, current_payloads, IsStart, TakeTo, StandFor, ZoneHolds}
-use Rattle.zone_state.specs.declared.kept.Kept.{Kept}
+use Rattle.zone_pairs.specs.Pair.{payloads_at, start_brief, current_payloads, IsStart, TakeTo, StandFor, ZoneHolds}
 use Rattle.zone_state.specs.State.{brief_in}
 use Rattle.paired_journal.specs.declared.files.Files.{Files}
-use Rattle.paired_journal.specs.Files.{beside_of, on_second, generation_of, disk_or, disk_beside, OtherStands}
-use Rattle.paired_reading.specs.Payloads.{AreUnmarked, BeginWith, AreAllChained}
+use Rattle.paired_journal.specs.Files.{beside_of, on_second, generation_of, disk_or, OtherStands}
+use Rattle.paired_reading.specs.Payloads.{AreUnmarked, BeginWith}
 use Rattle.paired_reading.specs.Received.{shown_by, HoldsZone}
 use Rattle.paired_reading.specs.declared.limit.TheConstants.{CHECKPOINT_FILE_LIMIT}
 use Rattle.paired_reading.specs.declared.reading.FoundZone.{FoundZone}
@@ -48,7 +47,7 @@ use Rattle.paired_zone.specs.Fault.{at_front, of_finding, of_journal, of_payload
 use Rattle.paired_zone.specs.Zone.{PairedView}
 use Rattle.paired_zone.proofs.Standing.{stands_at}
 use Rattle.paired_zone.specs.Opening.{FailsAtOne, IsInFile, IsOpened, RefusedDisk, OpensCurrent, RefusesCurrent}
-use Rattle.paired_zone.specs.State.{view_of, IsPoint, IsPairKept}
+use Rattle.paired_zone.specs.State.{view_of, IsPairKept}
 
 -- ---- how long journals are
 

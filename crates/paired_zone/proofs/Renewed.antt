@@ -1,23 +1,23 @@
 -- What a zone on two files stands for behind its next checkpoint, written or not.
-use Rattle.std.proofs.Common.{◌≡◌, ◌≢◌, ◌⊎◌, inl, inr, ⊎_elim, ℕ, ◌+◌, ◌-◌, ◌^◌, ◌<◌, ◌≤◌, Bool, true, false, List, [], ◌∷◌, ◌++◌, length, Option, Some, None, Result, Ok, Err, refl, sym, ◌∙◌, ap, subst, arith}
+use Rattle.std.proofs.Common.{◌≡◌, ◌⊎◌, inl, inr, ℕ, ◌+◌, ◌-◌, ◌^◌, ◌<◌, ◌≤◌, Bool, true, false, List, [], ◌∷◌, length, Option, Some, None, Result, Ok, Err, refl, sym, ◌∙◌, ap, subst, arith}
 use Rattle.std.specs.Prelude.{not, is_ok, IsErrOf, if◌then◌else◌}
 use Rattle.std.proofs.lemmas.List.Sums.{sum_by-cons}
 use Rattle.log_base.specs.Journals.{payloads_length}
 use Rattle.log_base.specs.declared.limits.LogLimits.{LogLimits}
-use Rattle.log_base.specs.declared.limits.TheConstants.{EMPTY_JOURNAL, PAYLOAD_FRAME, LOG_BYTES, ZONE_FILE_LIMIT}
+use Rattle.log_base.specs.declared.limits.TheConstants.{EMPTY_JOURNAL, PAYLOAD_FRAME}
 use Rattle.disk_model.specs.declared.disk.Disk.{Ghosts}
-use Rattle.disk_model.specs.Past.{EveryImage, LeavesOnly}
+use Rattle.disk_model.specs.Past.{LeavesOnly}
 use Rattle.disk_model.proofs.Moments.{weaker}
 use Rattle.log_journal.specs.File.{Holds}
-use Rattle.log_journal.specs.StandsFor.{length_of, limit_of, is_settled, disk_of}
+use Rattle.log_journal.specs.StandsFor.{is_settled, disk_of}
 use Rattle.log_journal.specs.Writing.{StandsWith}
 use Rattle.log_journal.specs.declared.journal.Journal.{Journal}
 use Rattle.patch_meaning.specs.Checked.{CheckedPatch}
-use Rattle.checkpoint_text.specs.Brief.{Brief, file_length}
+use Rattle.checkpoint_text.specs.Brief.{Brief}
 use Rattle.checkpoint_text.specs.Text.{checkpoint, IsCheckpoint}
 use Rattle.zone_files.specs.Generation.{number_of, PayloadsShow}
 use Rattle.zone_files.specs.Pair.{IsBehind, MayBeOther}
-use Rattle.zone_beside.specs.Beside.{MayHoldBeside, MayHoldWriting, IsLeftBehind}
+use Rattle.zone_beside.specs.Beside.{MayHoldWriting, IsLeftBehind}
 use Rattle.zone_beside.specs.declared.fault.WriteFault.{WriteFault}
 use Rattle.zone_beside.specs.declared.fault.WriteFault.TheVariants as write
 use Rattle.zone_pairs.specs.Pair.{PairPoint, payloads_at, MayBeTaken, MayBeBeside, MayHoldPayloads}
@@ -28,10 +28,10 @@ use Rattle.zone_state.specs.Zone.{text_in}
 use Rattle.paired_reading.specs.declared.limit.TheConstants.{CHECKPOINT_FILE_LIMIT}
 use Rattle.paired_journal.specs.Pair.{HoldsWith, IsLeft, DisksWent}
 use Rattle.paired_journal.specs.declared.files.Files.{Files}
-use Rattle.paired_journal.specs.Files.{beside_of, on_second, generation_of, disk_or, disk_beside, OtherStands, IsBegunAnew, HasRenewed}
+use Rattle.paired_journal.specs.Files.{beside_of, on_second, generation_of, disk_or, disk_beside, IsBegunAnew, HasRenewed}
 use Rattle.paired_zone.specs.Checkpointing.{end_by, doubt_by, disk_in, point_made, HasCheckpoint, MadeBeside}
 use Rattle.paired_zone.specs.Large.{length_alone, ArePrintable}
-use Rattle.paired_zone.specs.State.{view_of, IsPoint, IsNextInDoubt, IsPairKept}
+use Rattle.paired_zone.specs.State.{view_of, IsNextInDoubt, IsPairKept}
 use Rattle.paired_zone.specs.Zone.{PairedView, StandsAt}
 use Rattle.paired_zone.proofs.Printing.{is_checkpoint}
 use Rattle.paired_zone.proofs.Standing.{may_hold, beside_held, stands_at}

@@ -1,34 +1,31 @@
 -- What a zone on two files stands for.
-use Rattle.std.proofs.Common.{◌≡◌, ◌⊎◌, inl, inr, ℕ, ◌+◌, ◌*◌, ◌≤◌, Bool, false, List, [], ◌∷◌, ◌++◌, length, Option, Some, None, refl, sym, ◌∙◌, ap, subst, arith, length-append, append_assoc}
-use Rattle.std.specs.Prelude.{not, sum_by}
+use Rattle.std.proofs.Common.{◌≡◌, inl, inr, ℕ, ◌+◌, ◌*◌, ◌≤◌, Bool, List, [], ◌∷◌, ◌++◌, length, Option, Some, None, sym, subst, arith}
+use Rattle.std.specs.Prelude.{not}
 use Rattle.std.proofs.lemmas.List.Sums.{sum_by-append, sum_by-cons}
 use Rattle.log_base.specs.Journals.{payloads_length}
 use Rattle.log_base.specs.declared.limits.LogLimits.{LogLimits}
 use Rattle.log_base.specs.declared.limits.TheConstants.{PAYLOAD_FRAME}
 use Rattle.disk_model.specs.declared.disk.Disk.{Ghosts}
-use Rattle.disk_model.specs.Past.{Past, MayLeave, EveryImage, LeavesOnly}
-use Rattle.disk_model.proofs.Moments.{starts, weaker}
+use Rattle.disk_model.specs.Past.{Past, EveryImage}
 use Rattle.log_journal.specs.File.{Holds}
-use Rattle.log_journal.specs.Journal.{HoldsAll, InDoubt, HoldsWithOrWithout}
-use Rattle.log_journal.specs.StandsFor.{length_of, limit_of, count_of, disk_of}
+use Rattle.log_journal.specs.Journal.{HoldsAll, InDoubt}
+use Rattle.log_journal.specs.StandsFor.{length_of, count_of, disk_of}
 use Rattle.log_journal.specs.Writing.{StandsWith, HoldsDuring}
 use Rattle.log_journal.specs.declared.journal.Journal.{Journal}
 use Rattle.log_journal.proofs.Steps.{either}
-use Rattle.patch_meaning.specs.Checked.{CheckedPatch, checked_texts}
+use Rattle.patch_meaning.specs.Checked.{CheckedPatch}
 use Rattle.checkpoint_text.specs.Brief.{Brief}
-use Rattle.checkpoint_text.specs.Text.{checkpoint}
 use Rattle.zone_files.specs.Generation.{number_of}
-use Rattle.zone_files.specs.Pair.{IsBehind}
 use Rattle.zone_beside.specs.Beside.{MayHoldBeside}
 use Rattle.paired_journal.specs.Pair.{HoldsWith}
-use Rattle.zone_pairs.specs.Pair.{PairPoint, payloads_at, FileHolds, MayBeBeside, MayHoldPayloads, MayHoldTaking, StandsForPair}
+use Rattle.zone_pairs.specs.Pair.{payloads_at, FileHolds, MayBeBeside, MayHoldPayloads, MayHoldTaking}
 use Rattle.zone_state.specs.declared.kept.Kept.{Kept}
 use Rattle.zone_state.specs.State.{brief_in}
 use Rattle.zone_state.specs.Zone.{text_in}
 use Rattle.paired_journal.specs.declared.files.Files.{Files}
 use Rattle.paired_journal.specs.Files.{beside_of, on_second, generation_of, disk_beside}
 use Rattle.paired_zone.specs.State.{view_of, IsNextInDoubt, IsPairKept}
-use Rattle.paired_zone.specs.Zone.{PairedView, StandsAt}
+use Rattle.paired_zone.specs.Zone.{StandsAt}
 
 -- ---- journals
 

@@ -1,18 +1,15 @@
 -- What taking the next patch comes to on two files, by its answer.
-use Rattle.std.proofs.Common.{◌≡◌, ◌≢◌, ◌⊎◌, inl, inr, ⊎_elim, ℕ, true, false, List, Option, Some, None, Result, Ok, Err, refl, sym, ◌∙◌, ap, subst, arith}
-use Rattle.std.specs.Prelude.{IsErr}
+use Rattle.std.proofs.Common.{◌≡◌, ◌≢◌, ◌⊎◌, inl, inr, ⊎_elim, ℕ, List, Option, Some, None, Result, Ok, Err, refl, sym, subst, arith}
 use Rattle.disk_model.specs.declared.disk.Disk.{Ghosts}
-use Rattle.disk_model.specs.Past.{LeavesOnly}
-use Rattle.disk_model.proofs.Moments.{starts, weaker}
+use Rattle.disk_model.proofs.Moments.{starts}
 use Rattle.term_table.specs.Table.{most}
 use Rattle.dataset_tx.specs.Held.{AreMet, AreMore}
 use Rattle.log_base.specs.declared.phase.Phase.{Phase}
-use Rattle.log_journal.specs.StandsFor.{disk_of}
 use Rattle.log_journal.specs.Writing.{doubt_left, failing}
 use Rattle.patch_meaning.specs.Checked.{CheckedPatch}
 use Rattle.patch_log.specs.Log.{bare}
 use Rattle.zone_files.specs.Generation.{number_of}
-use Rattle.zone_pairs.specs.Pair.{PairPoint, payloads_at, MayBeBeside, MayHoldPayloads, MayHoldTaking}
+use Rattle.zone_pairs.specs.Pair.{PairPoint, payloads_at, MayBeBeside, MayHoldTaking}
 use Rattle.zone_state.specs.declared.answer.TakeAnswer.{TakeAnswer}
 use Rattle.zone_state.specs.declared.answer.TakeAnswer.TheVariants.{Applied, Diverged, Repeated, Full, TermsFull, OutOfMemory, DiskFault}
 use Rattle.zone_state.specs.Stay.{answer_by}
@@ -22,8 +19,6 @@ use Rattle.zone_state.proofs.Decisions.{IsRefused}
 use Rattle.zone_state.proofs.Readings.{meets_none}
 use Rattle.zone_state.proofs.Written.{brief_after}
 use Rattle.paired_journal.specs.Pair.{DisksWent}
-use Rattle.paired_journal.specs.declared.files.Files.{Files}
-use Rattle.paired_zone.specs.State.{IsPairKept}
 use Rattle.paired_zone.specs.Takes.{point_then, TookBeside, TakesPatch}
 use Rattle.paired_zone.specs.Zone.{PairedView, StandsAt}
 use Rattle.paired_zone.proofs.Standing.{file_images}

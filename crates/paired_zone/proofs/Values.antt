@@ -1,13 +1,13 @@
 -- The prefixes of a zone's dataset are such that rows can set.
-use Rattle.std.proofs.Common.{◌≡◌, ℕ, Bool, true, false, cond, List, [], ◌∷◌, Option, Some, None, sym, ap, subst}
+use Rattle.std.proofs.Common.{ℕ, Bool, true, false, cond, List, [], ◌∷◌, Option, Some, None, sym, subst}
 use Rattle.std.specs.List.{AllByRecursion}
 use Rattle.std.specs.BTreeMap.{is_at, insert_entry}
 use Rattle.std.specs.Map.{remove_entry}
 use Rattle.std.specs.Ordering.{match_ordering}
 use Rattle.std.specs.declared.cmp.Ordering.{Ordering}
 use Rattle.std.specs.declared.cmp.Ordering.TheVariants.{Less, Equal, Greater}
-use Rattle.std.proofs.lemmas.List.Elements.{All-from_recursion, recursion_from_All}
-use Rattle.rdf_terms.specs.Dataset.{Dataset, PrefixKey, prefix_cmp, effect, effects, kept, apply}
+use Rattle.std.proofs.lemmas.List.Elements.{recursion_from_All}
+use Rattle.rdf_terms.specs.Dataset.{Dataset, PrefixKey, prefix_cmp, effect, effects, kept}
 use Rattle.rdf_terms.specs.declared.change.Change.{Change}
 use Rattle.rdf_terms.specs.declared.change.Change.TheVariants.{Add, Delete, PrefixAdd, PrefixDelete, Begin, Commit, Abort}
 use Rattle.patch_rows.specs.declared.row.Row.TheVariants as row
@@ -18,7 +18,7 @@ use Rattle.patch_meaning.specs.Checked.{CheckedPatch, AreChecked}
 use Rattle.checkpoint_text.specs.Brief.{Brief}
 use Rattle.checkpoint_text.specs.Text.{Setting, IsSetting}
 use Rattle.zone_pairs.specs.Briefs.{with_patch}
-use Rattle.zone_pairs.specs.Pair.{PairPoint, IsStart, start_brief, TakeTo}
+use Rattle.zone_pairs.specs.Pair.{IsStart, start_brief, TakeTo}
 
 abbrev HasRow : Change → Type 0
 HasRow c = IsPrintedRow (row.Change c)

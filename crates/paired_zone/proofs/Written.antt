@@ -1,18 +1,18 @@
 -- What a zone on two files stands for behind the write of its next patch.
-use Rattle.std.proofs.Common.{◌≡◌, ◌≢◌, ◌⊎◌, inl, inr, ⊎_elim, ℕ, ◌+◌, ◌-◌, ◌^◌, ◌<◌, ◌≤◌, Bool, false, List, [], ◌∷◌, ◌++◌, length, Option, Some, None, refl, sym, ◌∙◌, ap, subst, arith, length-append, append_assoc}
+use Rattle.std.proofs.Common.{◌≡◌, inl, inr, ℕ, ◌+◌, ◌-◌, ◌^◌, ◌<◌, ◌≤◌, Bool, List, [], ◌∷◌, ◌++◌, length, Option, Some, None, refl, sym, ◌∙◌, ap, subst, arith, length-append, append_assoc}
 use Rattle.log_base.specs.Journals.{payloads_length}
 use Rattle.log_base.specs.declared.limits.LogLimits.{LogLimits}
-use Rattle.log_base.specs.declared.limits.TheConstants.{PAYLOAD_FRAME, LOG_BYTES, ZONE_FILE_LIMIT}
+use Rattle.log_base.specs.declared.limits.TheConstants.{PAYLOAD_FRAME}
 use Rattle.log_base.specs.declared.phase.Phase.{Phase}
 use Rattle.log_base.specs.declared.phase.Phase.TheVariants.{Settling, Body, Gate}
 use Rattle.disk_model.specs.declared.disk.Disk.{Ghosts}
-use Rattle.disk_model.specs.Past.{EveryImage, LeavesOnly}
-use Rattle.disk_model.proofs.Moments.{starts, weaker}
+use Rattle.disk_model.specs.Past.{EveryImage}
+use Rattle.disk_model.proofs.Moments.{weaker}
 use Rattle.log_journal.specs.File.{Holds}
 use Rattle.log_journal.specs.StandsFor.{length_of, limit_of, count_of, disk_of}
 use Rattle.log_journal.specs.Writing.{StandsWith, HoldsDuring, payloads_left, doubt_left, longer_by}
 use Rattle.chain_core.specs.Ids.{version_among}
-use Rattle.patch_meaning.specs.Checked.{CheckedPatch, AreChecked, checked_texts}
+use Rattle.patch_meaning.specs.Checked.{CheckedPatch, checked_texts}
 use Rattle.patch_meaning.specs.Patch.{IsPatch}
 use Rattle.patch_log.specs.Log.{bare}
 use Rattle.checkpoint_text.specs.Brief.{Brief, file_length}
@@ -21,10 +21,9 @@ use Rattle.zone_files.specs.Pair.{IsBehind}
 use Rattle.zone_beside.specs.Beside.{MayHoldBeside}
 use Rattle.paired_journal.specs.Pair.{IsLeft}
 use Rattle.zone_pairs.specs.Briefs.{with_patch}
-use Rattle.zone_pairs.specs.Pair.{PairPoint, payloads_at, start_texts, start_brief, Fits, TakeTo, IsWithin, MayBeTaken, MayBeBeside, MayHoldTaking}
+use Rattle.zone_pairs.specs.Pair.{PairPoint, payloads_at, start_texts, start_brief, Fits, IsWithin, MayBeBeside, MayHoldTaking}
 use Rattle.zone_pairs.proofs.Together.{taken_on, texts_on, checked_on}
-use Rattle.zone_state.specs.declared.answer.TakeAnswer.{TakeAnswer}
-use Rattle.zone_state.specs.declared.answer.TakeAnswer.TheVariants.{Applied, DiskFault}
+use Rattle.zone_state.specs.declared.answer.TakeAnswer.TheVariants.{Applied}
 use Rattle.zone_state.specs.declared.kept.Kept.{Kept}
 use Rattle.zone_state.specs.State.{brief_in}
 use Rattle.zone_state.specs.Stay.{answer_by}
@@ -33,12 +32,11 @@ use Rattle.zone_state.specs.Zone.{text_in}
 use Rattle.zone_state.proofs.Decisions.{CanBeTaken, can_be_taken}
 use Rattle.zone_state.proofs.Standing.{doubts_are}
 use Rattle.zone_state.proofs.Written.{brief_after, brief_same}
-use Rattle.paired_reading.specs.declared.limit.TheConstants.{CHECKPOINT_FILE_LIMIT}
 use Rattle.paired_journal.specs.declared.files.Files.{Files}
 use Rattle.paired_journal.specs.Files.{beside_of, on_second, generation_of, disk_beside, OtherStands, HasAppended}
 use Rattle.paired_zone.specs.State.{view_of, IsPoint, IsNextInDoubt, IsPairKept}
 use Rattle.paired_zone.specs.Takes.{point_then, TookBeside}
-use Rattle.paired_zone.specs.Zone.{PairedView, StandsAt}
+use Rattle.paired_zone.specs.Zone.{StandsAt}
 use Rattle.paired_zone.proofs.Standing.{counted, length-push, count_is, may_hold_taking, beside_held, stands_at}
 
 -- ---- the payloads behind a write

@@ -111,10 +111,11 @@ fn text_within(
     ensures ids { All IsIdValue kept.now.ids.items }
 {
     let ids = kept.ids.as_slice();
+    let bytes = kept.bytes;
     let first = FirstLine {
         generation,
         patches: u64::from(kept.ids.len()),
-        bytes: kept.bytes,
+        bytes,
         prefixes: rows.len() as u64,
         quads: lines.len() as u64,
     };
@@ -123,7 +124,7 @@ fn text_within(
         return Err(MakeFault::TooLong { length });
     }
     let mut text = Vec::new(alloc);
-    push_checkpoint(&mut text, generation, ids, kept.bytes, rows, lines)?;
+    push_checkpoint(&mut text, generation, ids, bytes, rows, lines)?;
     Ok(Bytes::from_vec(text))
 }
 

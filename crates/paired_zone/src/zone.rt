@@ -5,6 +5,7 @@ ghost use Rattle.std.specs.List.{filter};
 ghost use Rattle.std.specs.List.Sorted.{IsPermutation, IsSorted};
 ghost use Rattle.log_base.specs.declared.limits.TheConstants.{LOG_BYTES};
 ghost use Rattle.disk_model.specs.Past.{reads};
+ghost use Rattle.log_journal.specs.StandsFor.{is_settled};
 ghost use Rattle.rdf_terms.specs.Line.{line};
 ghost use Rattle.dataset_tx.specs.Pattern.{matches};
 ghost use Rattle.dataset_tx.specs.Prefixes.{prefix_change};
@@ -74,10 +75,10 @@ fn is_beside<D: Disk>(beside: &Beside<D>, generation: Option<u64>) -> bool
 }
 
 // No patch is in doubt once the journal is settled.
-fn settle_where(doubt: &mut Doubtful, settled: bool)
-    ensures { doubt.new.patch ≡ doubt_by settled doubt.old.patch }
+fn settle_where<D: Disk>(doubt: &mut Doubtful, files: &Files<D>)
+    ensures { doubt.new.patch ≡ doubt_by (is_settled files.now.current) doubt.old.patch }
 {
-    if settled {
+    if files.current.is_settled() {
         doubt.settle();
     }
 }
@@ -353,7 +354,7 @@ impl<D: Disk> PairedZone<D> {
         match make_checkpoint(self.alloc, generation + 1, &self.kept) {
             Ok(payload) => {
                 let written = self.files.renew(&payload);
-                settle_where(&mut self.doubt, self.files.current.is_settled());
+                settle_where(&mut self.doubt, &self.files);
                 end_of(written, self.kept.ids.len())
             }
             Err(MakeFault::TooLong { length }) => CheckEnd::TooLarge {

@@ -1,4 +1,4 @@
-use Rattle.std.proofs.Common.{◌≡◌, ◌+◌, ◌-◌, ◌^◌, ◌<◌, ◌≤◌, ℕ, Bool, List, Err, min, refl, sym, ◌∙◌, ap, subst, arith}
+use Rattle.std.proofs.Common.{◌≡◌, ◌+◌, ◌-◌, ◌^◌, ◌<◌, ◌≤◌, ℕ, List, Err, min, refl, sym, ◌∙◌, ap, subst, arith}
 use Rattle.checkpoint_text.specs.Text.{checkpoint}
 use Rattle.zone_state.specs.State.{brief_in}
 use Rattle.paired_journal.specs.Files.{beside_of, generation_of, HasRenewed}
@@ -8,7 +8,7 @@ use Rattle.paired_zone.specs.State.{view_of}
 use Rattle.paired_zone.proofs.Standing.{stands_at}
 use Rattle.paired_zone.proofs.Checkpointed.{makes_too_large, makes_wanting, makes_renewed}
 use Rattle.paired_zone.proofs.Renewed.{kept_renewed}
-use Rattle.paired_zone.specs.Checkpointing.{doubt_by, MakesCheckpoint}
+use Rattle.paired_zone.specs.Checkpointing.{MakesCheckpoint}
 use Rattle.paired_zone.specs.declared.answer.CheckEnd.{CheckEnd}
 use Rattle.paired_zone.specs.declared.making.MakeFault.{MakeFault}
 use Rattle.paired_zone.proofs.zone.PairedZone.checkpoint.Goals as goal
@@ -31,7 +31,7 @@ returns-in-Err-TooLong g c =
     let zone = c.self.inside in
     let is = c.generation-generation.ensures in
     let more : generation_of (beside_of zone.files) < 2 ^ 64 - 1 = omega (arith, is, c.if-generation.false) in
-    let told = c.in-Err-TooLong.ensures.too_long c.in-Err-TooLong.length (c.in-Err-TooLong.is ∙ ap (λ (fault : MakeFault). Err fault) c.in-Err-TooLong.field-0-is) in
+    let told = c.in-Err-TooLong.ensures.too_long c.in-Err-TooLong.length (ap (λ (fault : MakeFault). Err fault) c.in-Err-TooLong.field-0-is) in
     let long = subst (λ (n : ℕ). CHECKPOINT_FILE_LIMIT < length_alone (n + 1) (brief_in zone.kept)) is told.0 in
     let shown = subst (λ (n : ℕ). c.in-Err-TooLong.length ≡ min (length_alone (n + 1) (brief_in zone.kept)) (2 ^ 64 - 1)) is told.1 in
     rw (← c.self.view_is) (makes_too_large g.D.Disk (view_of zone.files zone.kept zone.limits zone.doubt.patch) c.in-Err-TooLong.length CHECKPOINT_FILE_LIMIT
@@ -48,7 +48,7 @@ invariant_of-self g c =
     let within = subst (λ (n : ℕ). length_alone (n + 1) (brief_in zone.kept) ≤ CHECKPOINT_FILE_LIMIT) is c.in-Ok.ensures.within in
     let printable = subst (λ (n : ℕ). ArePrintable (n + 1) (brief_in zone.kept)) is c.in-Ok.ensures.printable in
     let text = c.in-Ok.ensures.text ∙ ap (λ (n : ℕ). checkpoint (n + 1) (brief_in zone.kept)) is in
-    let left = c.settle_where.ensures ∙ ap (λ (b : Bool). doubt_by b zone.doubt.patch) c.is_settled.ensures in
+    let left = c.settle_where.ensures in
     let wrote = subst (λ (t : List ℕ). HasRenewed zone.files.current new.current (beside_of zone.files) (beside_of new) t c.renew-written.result) text c.renew-written.ensures in
     kept_renewed zone.files zone.kept zone.limits zone.doubt.patch c.self.invariant more within printable new c.settle_where.new.doubt.patch left c.renew-written.result wrote
 
@@ -62,7 +62,7 @@ returns-in-Ok g c =
     let within = subst (λ (n : ℕ). length_alone (n + 1) (brief_in zone.kept) ≤ CHECKPOINT_FILE_LIMIT) is c.in-Ok.ensures.within in
     let printable = subst (λ (n : ℕ). ArePrintable (n + 1) (brief_in zone.kept)) is c.in-Ok.ensures.printable in
     let text = c.in-Ok.ensures.text ∙ ap (λ (n : ℕ). checkpoint (n + 1) (brief_in zone.kept)) is in
-    let left = c.settle_where.ensures ∙ ap (λ (b : Bool). doubt_by b zone.doubt.patch) c.is_settled.ensures in
+    let left = c.settle_where.ensures in
     let wrote = subst (λ (t : List ℕ). HasRenewed zone.files.current new.current (beside_of zone.files) (beside_of new) t c.renew-written.result) text c.renew-written.ensures in
     let made = makes_renewed zone.files zone.kept zone.limits zone.doubt.patch c.self.invariant more within printable new left_patch left c.len.result c.len.ensures.len c.renew-written.result wrote in
     rw (← c.self.view_is) (subst (λ (end : CheckEnd). MakesCheckpoint g.D.Disk (view_of zone.files zone.kept zone.limits zone.doubt.patch) (view_of new zone.kept zone.limits left_patch) end) (sym c.end_of.ensures) made)

@@ -1,13 +1,11 @@
-use Rattle.std.proofs.Common.{◌≡◌, ◌≤◌, List, ℕ, Option, None, true, sym, subst, ◌∙◌, arith}
+use Rattle.std.proofs.Common.{◌≤◌, ℕ, Option, sym, subst, arith}
 use Rattle.log_base.specs.Journals.{payloads_length}
 use Rattle.log_base.specs.declared.limits.TheConstants.{ZONE_FILE_LIMIT}
 use Rattle.disk_model.specs.Past.{reads}
 use Rattle.log_journal.specs.File.{Holds}
-use Rattle.log_journal.specs.StandsFor.{disk_of, length_of}
+use Rattle.log_journal.specs.StandsFor.{length_of}
 use Rattle.log_journal.specs.Written.{Reopened}
-use Rattle.zone_files.specs.Generation.{number_of}
 use Rattle.paired_reading.specs.Fault.{HasPayloadsFault}
-use Rattle.paired_reading.specs.Received.{HoldsZone}
 use Rattle.paired_zone.specs.Fault.{of_payloads}
 use Rattle.paired_zone.specs.Opening.{IsInFile, RefusesCurrent}
 use Rattle.paired_zone.specs.declared.fault.PairFault.{PairFault}

@@ -1,9 +1,9 @@
-use Rattle.std.proofs.Common.{◌≡◌, ℕ, Bool, sym, subst, ap}
+use Rattle.std.proofs.Common.{◌≡◌, ℕ, Bool, sym, subst}
 use Rattle.disk_model.specs.Past.{reads}
 use Rattle.zone_files.specs.Generation.{number_of}
 use Rattle.zone_beside.specs.Finding.{IsCurrent}
-use Rattle.std.proofs.Common.{true, false, cond}
-use Rattle.paired_zone.specs.Fault.{HasPairFault, none_current}
+use Rattle.std.proofs.Common.{true, false}
+use Rattle.paired_zone.specs.Fault.{none_current}
 use Rattle.paired_zone.specs.Opening.{FailsAtOne, RefusedDisk}
 use Rattle.paired_zone.specs.declared.fault.PairFault.TheVariants.{Failed}
 use Rattle.paired_zone.proofs.Opened.{here_in, is_opened, has_fault, both_refused, in_order_so, finding_failed}
