@@ -199,8 +199,10 @@ fn holds(
 fn leaves(alloc: Global, first: &MemDisk, second: &MemDisk, case: &Case) -> Result<bool, Fail> {
     let before = &case.before;
     match &case.left {
-        Left::Files(left) => Ok(holds(alloc, first, 1000, before.0, left.0)?
-            && holds(alloc, second, 1001, before.1, left.1)?),
+        Left::Files(left) => Ok(
+            holds(alloc, first, 1000, before.0, left.0)?
+                && holds(alloc, second, 1001, before.1, left.1)?,
+        ),
         Left::Version(version) => is_left(alloc, first, second, *version, 0),
     }
 }

@@ -17,11 +17,7 @@ const EMPTY: &[u8] = b"RDJ2\0\0\x03\xe8\0";
 static CALLS: [Option<&[u8]>; 5] = [Some(FIRST), None, Some(SECOND), None, Some(THIRD)];
 
 // One more call of a zone. Whether it was done.
-fn call(
-    alloc: Global,
-    zone: &mut PairedZone<MemDisk>,
-    text: Option<&[u8]>,
-) -> Result<bool, Fail> {
+fn call(alloc: Global, zone: &mut PairedZone<MemDisk>, text: Option<&[u8]>) -> Result<bool, Fail> {
     match text {
         Some(text) => Ok(matches!(take(alloc, zone, text)?, TakeAnswer::Applied { .. })),
         None => Ok(matches!(zone.checkpoint(), CheckEnd::Done { .. })),

@@ -75,10 +75,12 @@ fn has_lines(zone: &PairedZone<MemDisk>, lines: &[&str]) -> Result<bool, Fail> {
 pub fn has_taken(zone: &PairedZone<MemDisk>, version: u32) -> Result<bool, Fail> {
     let (head, lines) = after(version);
     let prefixes = if version < 3 { 0 } else { 2 };
-    Ok(zone.version() == version
-        && zone.head() == head
-        && has_lines(zone, lines)?
-        && zone.prefix_rows()?.len() == prefixes)
+    Ok(
+        zone.version() == version
+            && zone.head() == head
+            && has_lines(zone, lines)?
+            && zone.prefix_rows()?.len() == prefixes,
+    )
 }
 
 /// The version of the zone on two images, which has what so many of the three patches make.

@@ -6,4 +6,4 @@ pub mod Values
 pub mod Sizes
 pub mod Printing
 pub mod Renewed
-pub mod Making
+pub mod Checkpointed

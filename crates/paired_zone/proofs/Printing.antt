@@ -14,14 +14,36 @@ use Rattle.patch_rows.specs.Printing.{row_text}
 use Rattle.dataset_tx.specs.Prefixes.{prefix_change}
 use Rattle.log_base.specs.declared.limits.TheConstants.{LOG_BYTES}
 use Rattle.checkpoint_line.specs.declared.first.FirstLine.{FirstLine}
-use Rattle.checkpoint_line.specs.First.{first_line}
+use Rattle.checkpoint_line.specs.First.{first_line, AreCounts}
 use Rattle.checkpoint_text.specs.Brief.{Brief}
-use Rattle.checkpoint_text.specs.Text.{checkpoint, line_of_id, prefix_rows, first_line_of, Setting, setting_line, IsSetting, IsCheckpoint}
+use Rattle.checkpoint_text.specs.Text.{checkpoint, line_of_id, prefix_rows, first_line_of, text_of_parts, Setting, setting_line, IsSetting, IsCheckpoint}
 use Rattle.checkpoint_text.proofs.Items.{All-from_contains}
 use Rattle.checkpoint_text.proofs.OneText.{row_from}
 use Rattle.paired_reading.specs.declared.limit.TheConstants.{CHECKPOINT_FILE_LIMIT}
 use Rattle.paired_zone.specs.Large.{length_alone, ArePrintable}
 use Rattle.paired_zone.proofs.Sizes.{first-length, parts-length}
+
+-- ---- the text of what is kept
+
+-- the first line of these numbers
+pub first_as : (generation : ℕ) (brief : Brief) (patches prefixes quads : ℕ) (rows lines : List (List ℕ)) → patches ≡ length brief.ids → prefixes ≡ length rows → quads ≡ length lines → rows ≡ prefix_rows brief.contents → lines ≡ map line brief.contents.quads
+    → ◌≡◌ {A = FirstLine} (record { generation = generation; patches = patches; bytes = brief.bytes; prefixes = prefixes; quads = quads }) (first_line_of generation brief)
+first_as generation brief patches prefixes quads rows lines v p q r l =
+    ap (λ (n : ℕ). let f : FirstLine = record { generation = generation; patches = n; bytes = brief.bytes; prefixes = prefixes; quads = quads } in f) v
+    ∙ ap (λ (n : ℕ). let f : FirstLine = record { generation = generation; patches = length brief.ids; bytes = brief.bytes; prefixes = n; quads = quads } in f) (p ∙ ap length r)
+    ∙ ap (λ (n : ℕ). let f : FirstLine = record { generation = generation; patches = length brief.ids; bytes = brief.bytes; prefixes = length (prefix_rows brief.contents); quads = n } in f) (q ∙ ap length l ∙ length-map brief.contents.quads line)
+
+pub counts_of : (generation : ℕ) (brief : Brief) (patches prefixes quads : ℕ) (rows lines : List (List ℕ)) → patches ≡ length brief.ids → prefixes ≡ length rows → quads ≡ length lines → rows ≡ prefix_rows brief.contents → lines ≡ map line brief.contents.quads
+    → generation < 2 ^ 64 → patches < 2 ^ 64 → brief.bytes < 2 ^ 64 → prefixes < 2 ^ 64 → quads < 2 ^ 64 → AreCounts (first_line_of generation brief)
+counts_of generation brief patches prefixes quads rows lines v p q r l a b c d e =
+    subst AreCounts (first_as generation brief patches prefixes quads rows lines v p q r l) (record { generation = a; patches = b; bytes = c; prefixes = d; quads = e })
+
+-- these rows and lines behind it
+pub text_as : (generation : ℕ) (brief : Brief) (first : FirstLine) (rows lines : List (List ℕ)) → first ≡ first_line_of generation brief → rows ≡ prefix_rows brief.contents → lines ≡ map line brief.contents.quads → text_of_parts first brief.ids rows lines ≡ checkpoint generation brief
+text_as generation brief first rows lines f r l =
+    ap (λ (o : FirstLine). text_of_parts o brief.ids rows lines) f
+    ∙ ap (λ (ts : List (List ℕ)). text_of_parts (first_line_of generation brief) brief.ids ts lines) r
+    ∙ ap (λ (ts : List (List ℕ)). text_of_parts (first_line_of generation brief) brief.ids (prefix_rows brief.contents) ts) l
 
 -- ---- no text is empty
 
@@ -70,12 +92,15 @@ module _ (generation : ℕ) (brief : Brief) (later : generation < 2 ^ 64) (few :
   -- its first line stands in what is read of a file's front
   in_front : length (first_line first) ≤ 64
   in_front =
-      omega (arith, first-length first,
-      length-decimal-le 20 generation (omega arith) (omega (arith, later)) later,
-      length-decimal-le 10 (length brief.ids) (omega arith) (omega (arith, few)) (omega (arith, few)),
-      length-decimal-le 9 brief.bytes (omega arith) (omega (arith, small)) (omega (arith, small)),
-      length-decimal-le 9 (length rows) (omega arith) few_rows (omega (arith, few_rows)),
-      length-decimal-le 9 (length brief.contents.quads) (omega arith) few_lines (omega (arith, few_lines)))
+      omega (
+        arith,
+        first-length first,
+        length-decimal-le 20 generation (omega arith) (omega (arith, later)) later,
+        length-decimal-le 10 (length brief.ids) (omega arith) (omega (arith, few)) (omega (arith, few)),
+        length-decimal-le 9 brief.bytes (omega arith) (omega (arith, small)) (omega (arith, small)),
+        length-decimal-le 9 (length rows) (omega arith) few_rows (omega (arith, few_rows)),
+        length-decimal-le 9 (length brief.contents.quads) (omega arith) few_lines (omega (arith, few_lines)),
+      )
 
   pub is_checkpoint : ArePrintable generation brief → AllByRecursion IsSetting brief.contents.prefixes → IsCheckpoint (checkpoint generation brief) generation brief
   is_checkpoint printable settings = record {

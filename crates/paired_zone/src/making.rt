@@ -1,12 +1,12 @@
 //! Makes the checkpoint of what a zone keeps.
 ghost use Rattle.std.specs.Prelude.{◌≡◌, ◌+◌, ◌-◌, ◌^◌, ◌<◌, ◌≤◌, ℕ, min, length, map};
 ghost use Rattle.std.specs.Prelude.{None, IfOk, OnOk, IsErrOf};
-ghost use Rattle.std.specs.List.{concat};
+ghost use Rattle.std.specs.List.{concat, All};
 ghost use Rattle.std.specs.Fmt.{decimal};
 ghost use Rattle.log_base.specs.declared.limits.TheConstants.{EMPTY_JOURNAL, PAYLOAD_FRAME};
 ghost use Rattle.checkpoint_line.specs.First.{first_line, AreCounts};
 ghost use Rattle.rdf_terms.specs.Line.{line};
-ghost use Rattle.checkpoint_text.specs.Text.{checkpoint, first_line_of, prefix_rows};
+ghost use Rattle.checkpoint_text.specs.Text.{checkpoint, first_line_of, prefix_rows, IsIdValue};
 ghost use Rattle.checkpoint_text.specs.Text.{text_of_parts};
 ghost use Rattle.zone_state.specs.State.{brief_in};
 ghost use Rattle.paired_reading.specs.declared.limit.TheConstants.{CHECKPOINT_FILE_LIMIT};
@@ -108,6 +108,7 @@ fn text_within(
         → (CHECKPOINT_FILE_LIMIT < length_alone generation (brief_in kept.now))
         × (size ≡ min (length_alone generation (brief_in kept.now)) (2 ^ 64 - 1)) }
     ensures counts { AreCounts (first_line_of generation (brief_in kept.now)) }
+    ensures ids { All IsIdValue kept.now.ids.items }
 {
     let ids = kept.ids.as_slice();
     let first = FirstLine {
@@ -127,11 +128,7 @@ fn text_within(
 }
 
 /// The checkpoint of a generation, as a payload that is to stand alone.
-pub fn make_checkpoint(
-    alloc: Global,
-    generation: u64,
-    kept: &Kept,
-) -> Result<OnePayload, MakeFault>
+pub fn make_checkpoint(alloc: Global, generation: u64, kept: &Kept) -> Result<OnePayload, MakeFault>
     requires { kept.now.contents.staged ≡ None }
     ensures text { IfOk result (λ payload. payload ≡ checkpoint generation (brief_in kept.now)) }
     ensures within { OnOk result
