@@ -1,5 +1,6 @@
 //! A zone that catches up with a log of a server, as a replica of `catch_up`.
 //!
+//! It stands on one file or on two, and `specs/Footing.antt` says what differs between them.
 //! `specs/Calls.antt` says which calls are made (what is sent and answered on which connections is
 //! said by `Exchanged` of `delta_client`); `specs/Grown.antt` what a zone has gone through then;
 //! `specs/Syncing.antt` why catching up ended, and `specs/Causes.antt` the cause of each end.
