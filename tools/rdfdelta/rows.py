@@ -89,6 +89,14 @@ _BETWEEN = re.compile(r"[ \t\r\n]*(?:#[^\r\n]*[ \t\r\n]*)*")
 _CODE = re.compile(r"(TX|TC|TA|PA|PD|A|D|H)(?![A-Za-z])")
 _KEY = re.compile(r"[A-Za-z][A-Za-z0-9_-]*")
 _PREFIX_WORD = re.compile(r"([A-Za-z][A-Za-z0-9_-]*)?:|([A-Za-z][A-Za-z0-9_-]*)")
+# A quad as it is printed: no escape is used that isn't needed, and no datatype is told that a literal has anyway.
+_PRINTED_IRI = rf"<(?=[A-Za-z][A-Za-z0-9+.-]*:){_IRI_CHARACTERS}>"
+_PRINTED_LITERAL = (
+    rf'"[^"\\\n\r]*(?:\\["\\nr][^"\\\n\r]*)*"'
+    rf"(?:@[a-z]+(?:-[a-z0-9]+)*|\^\^(?!<{re.escape(XSD_STRING)}>|<{re.escape(RDF_LANG_STRING)}>){_PRINTED_IRI})?"
+)
+_NODE = rf"(?:{_PRINTED_IRI}|_:{_LABEL})"
+_PRINTED = re.compile(rf"{_NODE} {_PRINTED_IRI} (?:{_NODE}|{_PRINTED_LITERAL})(?: {_NODE})? \.")
 # How many terms stand behind a code, at least and at most; a key or a prefix is the first part of its row.
 _COUNTS = {"H": (2, 2), "TX": (0, 0), "TC": (0, 0), "TA": (0, 0), "PA": (2, 3), "PD": (1, 2), "A": (3, 4), "D": (3, 4)}
 
@@ -99,6 +107,11 @@ def is_iri(value: str) -> bool:
 
 def is_label(value: str) -> bool:
     return _WHOLE_LABEL.fullmatch(value) is not None
+
+
+def is_printed(line: str) -> bool:
+    """Whether this is a quad's canonical line, but for its end."""
+    return _PRINTED.fullmatch(line) is not None
 
 
 class _Reader:
