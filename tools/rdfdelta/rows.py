@@ -77,11 +77,11 @@ _LABEL_NEXT = _LABEL_FIRST + "\u00b7\u0300-\u036f\u203f-\u2040-"
 _LABEL = rf"[{_LABEL_FIRST}](?:[{_LABEL_NEXT}.]*[{_LABEL_NEXT}])?"
 _WHOLE_LABEL = re.compile(_LABEL)
 _IRI_CHARACTERS = r"[^\x00-\x20<>\"{}|^`\\]*"
-_IRI = rf"<(?!_:)({_IRI_CHARACTERS}(?:(?:{_CODE_POINT}){_IRI_CHARACTERS})*)>"
+_IRI = rf"<({_IRI_CHARACTERS}(?:(?:{_CODE_POINT}){_IRI_CHARACTERS})*)>"
 _STRING_CHARACTERS = r"[^\"\\\n\r]*"
 _STRING = rf"\"({_STRING_CHARACTERS}(?:(?:\\[tbnrf\"'\\]|{_CODE_POINT}){_STRING_CHARACTERS})*)\""
 _TERM = re.compile(
-    rf"{_IRI}|_:({_LABEL})|<_:({_LABEL})>"
+    rf"{_IRI}|_:({_LABEL})"
     rf"|{_STRING}(?:@([A-Za-z]+(?:-[A-Za-z0-9]+)*)|[ \t]*\^\^[ \t]*{_IRI})?"
 )
 _ESCAPE = re.compile(rf"{_CODE_POINT}|\\.")
@@ -163,6 +163,17 @@ class _Reader:
             self.refuse(at, "an IRI without a scheme")
         return Iri(text)
 
+    def bracketed(self, at: int, text: str) -> Iri | Blank:
+        """The IRI or the blank node of what stands in brackets."""
+        if not text.startswith(("_", "\\")):
+            return self.iri(at, text)
+        value = self.unescape(at, text)
+        if not value.startswith("_:"):
+            return self.iri(at, text)
+        if not is_label(value[2:]):
+            self.refuse(at, "no label of a blank node")
+        return Blank(value[2:])
+
     def named(self, at: int, value: str) -> Iri:
         if not is_iri(value):
             self.refuse(at, "an IRI with a character that none holds, or without a scheme")
@@ -173,11 +184,11 @@ class _Reader:
         if found is None:
             self.refuse(self.at, "no term stands here")
         at, self.at = self.at, found.end()
-        iri, label, bracketed, value, language, datatype = found.groups()
+        iri, label, value, language, datatype = found.groups()
         if iri is not None:
-            return self.iri(at, iri)
+            return self.bracketed(at, iri)
         if value is None:
-            return Blank(label or bracketed)
+            return Blank(label)
         value = self.unescape(at, value)
         if language is not None:
             return Literal(value, language=language.lower())
