@@ -47,12 +47,13 @@ def program():
     return Path(done.stdout.strip())
 
 
-def takes_runs(program, what):
-    """Whether a program takes runs of patches, as none up to version 0.2.0 does; where not, a line says what is left out."""
+def knows(program, word, what=""):
+    """Whether a program has a command, by its help; where not, a line says what is left out."""
     done = subprocess.run([program, "--help"], stdout=subprocess.PIPE, text=True, check=True)
-    if "\n  append_run " in done.stdout:
+    if f"\n  {word} " in done.stdout:
         return True
-    say(f"{program} takes no runs of patches: {what} left out")
+    if what:
+        say(f"{program} has no command {word}: {what} left out")
     return False
 
 

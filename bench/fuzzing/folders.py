@@ -15,24 +15,12 @@ from pathlib import Path
 from fuzzing.grammar import BAD_TERMS, BLANKS, IRIS, LITERALS, PatchTexts
 from fuzzing.lanes import shown
 from fuzzing.mutations import mutated, shrunk
+from fuzzing.pairs import Making, pair_of
 from fuzzing.upgrades import Upgrade, aged
 from journals import framed
-from reading.files import (
-    MARKER,
-    ZONE,
-    ZONE_MARKER,
-    Outcome,
-    canonical,
-    checked,
-    dataset_of,
-    file_name,
-    hall_of,
-    matched,
-    outcome,
-    replayed,
-)
+from reading.files import MARKER, Outcome, canonical, checked, file_name, hall_of, outcome, replayed
 from reading.hall import MOST_REGISTRY, Hall
-from reading.upgrades import SECOND
+from reading.zones import SECOND, ZONE, ZONE_MARKER, dataset_of, matched
 from serving import WORKERS, free_port
 
 LONGEST_WAIT = 20
@@ -188,16 +176,17 @@ class Folders:
     draw: random.Random
     others: list[bytes]
     found: Callable[[str], None]
+    makes_checkpoints: bool = True
     kept: Files = field(default_factory=dict)
     count: int = 0
 
     def __post_init__(self) -> None:
         self.texts = PatchTexts(self.draw, self.others)
 
-    def keep(self, folder: Path, zone: bytes) -> None:
+    def keep(self, folder: Path, zone: Files) -> None:
         """Keeps the files that a server and a follower wrote, to be changed as well."""
         files = {number: folder / file_name(number) for number in range(WORKERS + 1)}
-        self.kept = {number: path.read_bytes() for number, path in files.items() if path.exists()} | {ZONE: zone}
+        self.kept = {number: path.read_bytes() for number, path in files.items() if path.exists()} | zone
 
     def marked(self, marker: int) -> Files:
         """Seldom the marker of an upgrade, which may not be whole."""
@@ -234,20 +223,31 @@ class Folders:
             return self.hall()
         target = self.draw.choice(small)
         data = mutated(self.kept[target], self.draw, self.others)
-        if target == ZONE:
-            return Trial("dump", {}, ZONE, self.running("dump"), wanted_dump), data
+        if target in (ZONE, SECOND):
+            return self.reading_zone({number: self.kept[number] for number in (ZONE, SECOND) if number in self.kept}, target), data
         return Trial("check", self.kept, target, self.running("check"), wanted_check), data
 
-    def zone(self) -> tuple[Trial, bytes]:
-        journal = journal_of(self.texts, ZONE, False)
-        data = journal.changed(self.draw, self.others)
-        word, files = self.draw.choice(("dump", "prefixes", "match")), self.marked(ZONE_MARKER)
+    def zone(self) -> tuple[Trial | Making, bytes]:
+        """A zone of a file, or of two where the program makes checkpoints."""
+        journals = [journal_of(self.texts, ZONE, False)]
+        if self.makes_checkpoints and self.draw.random() < 0.7:
+            journals = [Payloads(*pair) for pair in pair_of(journals[0].payloads, self.draw).items()]
+        target = self.draw.choice(journals)
+        files = {journal.number: journal.written() for journal in journals} | self.marked(ZONE_MARKER)
+        return self.reading_zone(files, target.number), target.changed(self.draw, self.others)
+
+    def reading_zone(self, files: Files, target: int) -> Trial | Making:
+        """One of the commands over the files of a zone."""
+        making = ("checkpoint",) if self.makes_checkpoints else ()
+        word = self.draw.choice(("dump", "prefixes", "match", *making))
+        if word == "checkpoint":
+            return Making(files, target, self.running(word))
         if word == "match":
             pattern = [self.pattern_word(place) for place in range(4)]
             title = f"match {' '.join(map(repr, pattern))}"
-            return Trial(title, files, ZONE, lambda folder: run([self.program, "match", folder, *pattern]),
-                         lambda folder: matched(folder, pattern)), data
-        return Trial(word, files, ZONE, self.running(word), wanted_dump if word == "dump" else wanted_prefixes), data
+            return Trial(title, files, target, lambda folder: run([self.program, "match", folder, *pattern]),
+                         lambda folder: matched(folder, pattern))
+        return Trial(word, files, target, self.running(word), wanted_dump if word == "dump" else wanted_prefixes)
 
     def upgrade(self) -> tuple[Upgrade, bytes]:
         """Files of either form, of which an upgrade may have been stopped."""

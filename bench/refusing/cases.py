@@ -1,9 +1,9 @@
 """What is asked while memory is refused."""
 import json
-import subprocess
 from collections.abc import Iterator
 from pathlib import Path
 
+from measure import knows
 from refusing import folders
 from refusing.commands import Command, Told, Words
 from refusing.folders import FIVE, ID, LINES, LONGEST, SOURCE
@@ -60,12 +60,6 @@ def texts(built: Path) -> Iterator[Command]:
         ("the version", "--version", b"", (0, "rdfdelta 0.3.0\n", "")),
     ]:
         yield Command(built, title, folders.empty, Words(words, says, given))
-
-
-def knows(built: Path, word: str) -> bool:
-    """Whether the program has a command, by its help."""
-    done = subprocess.run([built, "--help"], capture_output=True, text=True, check=True)
-    return f"\n  {word} " in done.stdout
 
 
 def net(built: Path) -> Iterator[Command]:
