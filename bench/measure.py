@@ -95,6 +95,21 @@ def run(words, source, out):
     return usage.ru_utime + usage.ru_stime, usage.ru_maxrss / 1024
 
 
+def take_turns(title, runs, folder):
+    """Runs programs ROUNDS times in turn, each by its words and on an input of its own, and prints what they took; of each the medians
+    of seconds and of MiB. What one printed stands in the folder under its name."""
+    found = {name: [] for name in runs}
+    say(f"{title}: {ROUNDS} rounds")
+    for _ in range(ROUNDS):
+        for name, (words, source) in runs.items():
+            found[name].append(run(words, source, Path(folder, name)))
+    print(f"{title}: medians of {ROUNDS} rounds in turn")
+    taken = {name: tuple(map(statistics.median, zip(*pairs))) for name, pairs in found.items()}
+    for name, (seconds, memory) in taken.items():
+        print(f"  {name:{max(10, *map(len, runs))}} {seconds:8.3f} s {memory:8.1f} MiB")
+    return taken
+
+
 def compare(title, programs, source, differs=None):
     """Runs each program ROUNDS times in turn, prints its medians and ours against it, and returns the seconds of each.
 
