@@ -2,6 +2,7 @@
 import http.client
 import json
 import random
+import re
 import signal
 import socket
 import subprocess
@@ -20,10 +21,12 @@ from fuzzing.upgrades import Upgrade, aged
 from journals import framed
 from reading.files import MARKER, Outcome, canonical, checked, file_name, hall_of, outcome, replayed
 from reading.hall import MOST_REGISTRY, Hall
+from reading.nets import inverted, squashed
 from reading.zones import SECOND, ZONE, ZONE_MARKER, dataset_of, matched
 from serving import WORKERS, free_port
 
 LONGEST_WAIT = 20
+HYPHENATED = re.compile(rb"[0-9A-Fa-f]{8}(?:-[0-9A-Fa-f]{4}){3}-[0-9A-Fa-f]{12}")
 Files = dict[int, bytes]
 
 
@@ -176,7 +179,8 @@ class Folders:
     draw: random.Random
     others: list[bytes]
     found: Callable[[str], None]
-    makes_checkpoints: bool = True
+    # Those of the commands that not every program has.
+    commands: frozenset[str]
     kept: Files = field(default_factory=dict)
     count: int = 0
 
@@ -230,7 +234,7 @@ class Folders:
     def zone(self) -> tuple[Trial | Making, bytes]:
         """A zone of a file, or of two where the program makes checkpoints."""
         journals = [journal_of(self.texts, ZONE, False)]
-        if self.makes_checkpoints and self.draw.random() < 0.7:
+        if "checkpoint" in self.commands and self.draw.random() < 0.7:
             journals = [Payloads(*pair) for pair in pair_of(journals[0].payloads, self.draw).items()]
         target = self.draw.choice(journals)
         files = {journal.number: journal.written() for journal in journals} | self.marked(ZONE_MARKER)
@@ -238,8 +242,7 @@ class Folders:
 
     def reading_zone(self, files: Files, target: int) -> Trial | Making:
         """One of the commands over the files of a zone."""
-        making = ("checkpoint",) if self.makes_checkpoints else ()
-        word = self.draw.choice(("dump", "prefixes", "match", *making))
+        word = self.draw.choice(("dump", "prefixes", "match", *({"checkpoint"} & self.commands)))
         if word == "checkpoint":
             return Making(files, target, self.running(word))
         if word == "match":
@@ -278,16 +281,19 @@ class Folders:
         return word if word and b"\0" not in word and not word.startswith(b"-") and is_text(word) else b"*"
 
     def text(self) -> tuple[Trial, bytes]:
-        """A document for `nquads`, or a stream for `replay`, in the place of a file."""
-        if self.draw.random() < 0.5:
+        """A document for `nquads`, or a stream for `replay`, `squash` or `invert`, in the place of a file."""
+        share = 0.7
+        if self.draw.random() < 0.4:
             rows = "".join(self.texts.row(*self.statement()) for _ in range(self.draw.randrange(6))).encode()
-            trial = Trial("nquads", {}, 1, self.reading("nquads"), lambda folder: canonical(stream_in(folder)))
+            trial = self.reading(canonical, "nquads")
         else:
-            rows = self.texts.run(None, self.draw.randrange(5))[0]
-            trial = Trial("replay", {}, 1, self.reading("replay"), lambda folder: replayed(stream_in(folder)))
-        if self.draw.random() < 0.1:
+            count = self.draw.randrange(6)
+            rows = self.texts.run(None, count)[0]
+            trial = self.streaming(rows, count)
+            share = 0.7 if trial.title == "replay" else 0.2
+        if self.draw.random() < share / 7:
             rows += self.draw.choice(self.others)
-        return trial, mutated(rows, self.draw, self.others) if self.draw.random() < 0.7 else rows
+        return trial, mutated(rows, self.draw, self.others) if self.draw.random() < share else rows
 
     def statement(self) -> list[str]:
         terms = [self.texts.term(IRIS, BLANKS), self.texts.term(IRIS), self.texts.term(IRIS, BLANKS, LITERALS)]
@@ -296,8 +302,26 @@ class Folders:
     def running(self, word: str) -> Callable[[Path], Outcome]:
         return lambda folder: run([self.program, word, folder])
 
-    def reading(self, word: str) -> Callable[[Path], Outcome]:
-        return lambda folder: run([self.program, word], stream_in(folder))
+    def streaming(self, rows: bytes, count: int) -> Trial:
+        """One of the commands that read a stream, here of so many patches."""
+        chance = self.draw.random() if "squash" in self.commands else 0
+        if chance < 0.3:
+            return self.reading(replayed, "replay")
+        if chance < 0.7:
+            first, last = sorted(self.draw.randrange(1, max(2, count + 1)) for _ in range(2))
+            last += self.draw.random() < 0.1
+            return self.reading(lambda text: squashed(text, first, last), "squash", str(first), str(last))
+        id = str(uuid.UUID(int=self.draw.getrandbits(128)))
+        known = HYPHENATED.findall(rows)
+        if known and self.draw.random() < 0.1:
+            id = self.draw.choice(known).decode().lower()
+        form = self.draw.choice(("{}", "{{{}}}", "urn:uuid:{}")).format(self.draw.choice((id, id.upper())))
+        return self.reading(lambda text: inverted(text, id), "invert", form)
+
+    def reading(self, wants: Callable[[bytes], Outcome], *words: str) -> Trial:
+        """A command that reads a text."""
+        return Trial(" ".join(words), {}, 1, lambda folder: run([self.program, *words], stream_in(folder)),
+                     lambda folder: wants(stream_in(folder)))
 
     def serve(self, folder: Path) -> Outcome:
         """What `serve` tells where it ends by itself, and else the list of its sources and the heads of their logs."""

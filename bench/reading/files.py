@@ -4,7 +4,7 @@ from collections.abc import Callable
 from pathlib import Path
 
 from reading.hall import MOST_BYTES, MOST_PATCHES, MOST_REGISTRY, Hall, Log
-from reading.texts import Dataset, Fault, NoRun, read_document, read_run, read_stream, uuid
+from reading.texts import Dataset, Fault, NoRun, Patch, read_document, read_run, read_stream, uuid
 
 # A spare's number is so much higher than that of its file.
 SPARE, MARKER = 2000, 2099
@@ -174,13 +174,20 @@ def replayed(text: bytes) -> Outcome:
         patches = read_stream(text)
     except Fault as fault:
         return input_fault(text, fault)
-    dataset, log = Dataset(), Log()
+    dataset = Dataset()
+    for patch in patches:
+        dataset.apply(patch)
+    return no_chain(patches) or (0, dataset.lines(), "")
+
+
+def no_chain(patches: list[Patch]) -> Outcome | None:
+    """What is told of patches that are no chain."""
+    log = Log()
     for version, patch in enumerate(patches):
         if patch.prev != log.head():
             ids = f"have {log.head() or 'none'}, found {patch.prev or 'none'}"
             return 10, b"", f"rdfdelta: diverged at version {version}: {ids}\n"
         if patch.id in log.versions:
             return 10, b"", f"rdfdelta: repeated id {patch.id} at version {log.versions[patch.id]}\n"
-        dataset.apply(patch)
         log.take([patch], patch.text)
-    return 0, dataset.lines(), ""
+    return None
