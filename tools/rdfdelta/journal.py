@@ -215,22 +215,24 @@ def _broken(path: Path, what: str) -> NoReturn:
 
 
 def _zone_of(folder: Path) -> Journal:
-    """The journal of a zone's current file, under locks of both."""
+    """The journal of a zone's current file, under locks of both. Of these one may not be there."""
     contents: dict[int, bytes] = {}
+    missing: dict[int, FileNotFoundError] = {}
     with ExitStack() as stack:
         for number in ZONES:
             path = file_of(folder, number)
-            # The second file may not be there; without the first one it is alone.
-            if number == SECOND and not path.exists():
-                continue
             try:
                 file = stack.enter_context(path.open("rb"))
                 stack.enter_context(locks.shared(file, path))
                 contents[number] = file.read()
+            except FileNotFoundError as error:
+                missing[number] = error
             except OSError as error:
                 raise errors.BadFile(path, error.strerror or str(error)) from error
         check_marker(folder, ZONE)
     number = current_of(folder, [contents.get(number, b"") for number in ZONES])
+    if number in missing:
+        raise errors.BadFile(file_of(folder, number), missing[number].strerror) from missing[number]
     other = SECOND if number == ZONE else ZONE
     current = Journal.parse(file_of(folder, number), contents[number])
     try:

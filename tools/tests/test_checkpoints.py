@@ -130,6 +130,11 @@ def test_the_current_file(tmp_path: Path) -> None:
     write(tmp_path, 1001, [kept(1, 3)])
     file_of(tmp_path, 1000).write_bytes(b"anything")
     assert len(Journal.read(tmp_path).links()) == 3
+    file_of(tmp_path, 1000).unlink()
+    assert len(Journal.read(tmp_path).links()) == 3
+    write(tmp_path, 1001, [])
+    with pytest.raises(BadFile, match="rdj-1000: No such file"):
+        Journal.read(tmp_path)
 
 
 def test_texts_from_before_a_checkpoint(tmp_path: Path) -> None:
