@@ -4,6 +4,8 @@ import subprocess
 import uuid
 from pathlib import Path
 
+from reading.checkpoints import LONGEST_FIRST_LINE, first_line
+
 BEGINS = re.compile(rb"^H id ", re.MULTILINE)
 
 
@@ -29,6 +31,21 @@ def payloads_of(file):
         place += 9 + int.from_bytes(bytes[place + 5 : place + 9], "big")
         count += 1
     return count
+
+
+def version_of(zone):
+    """The generation of a zone, and how many patches it has taken, by the file that is current; what stands first in the
+    other one says only that it isn't."""
+    found = [(0, 0)]
+    for file in sorted(zone.glob("rdj-100[01]")):
+        if file.stat().st_size <= 9:
+            continue
+        count, line = payloads_of(file), first_line(file.read_bytes()[17 : 17 + LONGEST_FIRST_LINE])
+        if count and line:
+            found.append((line[0], line[1] + count - 1))
+        elif file.name == "rdj-1000":
+            found.append((0, count))
+    return max(found)
 
 
 def fill(folder, logs):

@@ -47,12 +47,13 @@ def program():
     return Path(done.stdout.strip())
 
 
-def takes_runs(program, what):
-    """Whether a program takes runs of patches, as none up to version 0.2.0 does; where not, a line says what is left out."""
+def knows(program, word, what=""):
+    """Whether a program has a command, by its help; where not, a line says what is left out."""
     done = subprocess.run([program, "--help"], stdout=subprocess.PIPE, text=True, check=True)
-    if "\n  append_run " in done.stdout:
+    if f"\n  {word} " in done.stdout:
         return True
-    say(f"{program} takes no runs of patches: {what} left out")
+    if what:
+        say(f"{program} has no command {word}: {what} left out")
     return False
 
 
@@ -92,6 +93,21 @@ def run(words, source, out):
     if status != 0:
         sys.exit(f"{words}: status {status}")
     return usage.ru_utime + usage.ru_stime, usage.ru_maxrss / 1024
+
+
+def take_turns(title, runs, folder):
+    """Runs programs ROUNDS times in turn, each by its words and on an input of its own, and prints what they took; of each the medians
+    of seconds and of MiB. What one printed stands in the folder under its name."""
+    found = {name: [] for name in runs}
+    say(f"{title}: {ROUNDS} rounds")
+    for _ in range(ROUNDS):
+        for name, (words, source) in runs.items():
+            found[name].append(run(words, source, Path(folder, name)))
+    print(f"{title}: medians of {ROUNDS} rounds in turn")
+    taken = {name: tuple(map(statistics.median, zip(*pairs))) for name, pairs in found.items()}
+    for name, (seconds, memory) in taken.items():
+        print(f"  {name:{max(10, *map(len, runs))}} {seconds:8.3f} s {memory:8.1f} MiB")
+    return taken
 
 
 def compare(title, programs, source, differs=None):

@@ -2,6 +2,7 @@
 import http.client
 import json
 import random
+import re
 import signal
 import socket
 import subprocess
@@ -15,27 +16,17 @@ from pathlib import Path
 from fuzzing.grammar import BAD_TERMS, BLANKS, IRIS, LITERALS, PatchTexts
 from fuzzing.lanes import shown
 from fuzzing.mutations import mutated, shrunk
+from fuzzing.pairs import Making, pair_of
 from fuzzing.upgrades import Upgrade, aged
 from journals import framed
-from reading.files import (
-    MARKER,
-    ZONE,
-    ZONE_MARKER,
-    Outcome,
-    canonical,
-    checked,
-    dataset_of,
-    file_name,
-    hall_of,
-    matched,
-    outcome,
-    replayed,
-)
+from reading.files import MARKER, Outcome, canonical, checked, file_name, hall_of, outcome, replayed
 from reading.hall import MOST_REGISTRY, Hall
-from reading.upgrades import SECOND
+from reading.nets import inverted, squashed
+from reading.zones import SECOND, ZONE, ZONE_MARKER, dataset_of, matched
 from serving import WORKERS, free_port
 
 LONGEST_WAIT = 20
+HYPHENATED = re.compile(rb"[0-9A-Fa-f]{8}(?:-[0-9A-Fa-f]{4}){3}-[0-9A-Fa-f]{12}")
 Files = dict[int, bytes]
 
 
@@ -188,16 +179,18 @@ class Folders:
     draw: random.Random
     others: list[bytes]
     found: Callable[[str], None]
+    # Those of the commands that not every program has.
+    commands: frozenset[str]
     kept: Files = field(default_factory=dict)
     count: int = 0
 
     def __post_init__(self) -> None:
         self.texts = PatchTexts(self.draw, self.others)
 
-    def keep(self, folder: Path, zone: bytes) -> None:
+    def keep(self, folder: Path, zone: Files) -> None:
         """Keeps the files that a server and a follower wrote, to be changed as well."""
         files = {number: folder / file_name(number) for number in range(WORKERS + 1)}
-        self.kept = {number: path.read_bytes() for number, path in files.items() if path.exists()} | {ZONE: zone}
+        self.kept = {number: path.read_bytes() for number, path in files.items() if path.exists()} | zone
 
     def marked(self, marker: int) -> Files:
         """Seldom the marker of an upgrade, which may not be whole."""
@@ -234,20 +227,30 @@ class Folders:
             return self.hall()
         target = self.draw.choice(small)
         data = mutated(self.kept[target], self.draw, self.others)
-        if target == ZONE:
-            return Trial("dump", {}, ZONE, self.running("dump"), wanted_dump), data
+        if target in (ZONE, SECOND):
+            return self.reading_zone({number: self.kept[number] for number in (ZONE, SECOND) if number in self.kept}, target), data
         return Trial("check", self.kept, target, self.running("check"), wanted_check), data
 
-    def zone(self) -> tuple[Trial, bytes]:
-        journal = journal_of(self.texts, ZONE, False)
-        data = journal.changed(self.draw, self.others)
-        word, files = self.draw.choice(("dump", "prefixes", "match")), self.marked(ZONE_MARKER)
+    def zone(self) -> tuple[Trial | Making, bytes]:
+        """A zone of a file, or of two where the program makes checkpoints."""
+        journals = [journal_of(self.texts, ZONE, False)]
+        if "checkpoint" in self.commands and self.draw.random() < 0.7:
+            journals = [Payloads(*pair) for pair in pair_of(journals[0].payloads, self.draw).items()]
+        target = self.draw.choice(journals)
+        files = {journal.number: journal.written() for journal in journals} | self.marked(ZONE_MARKER)
+        return self.reading_zone(files, target.number), target.changed(self.draw, self.others)
+
+    def reading_zone(self, files: Files, target: int) -> Trial | Making:
+        """One of the commands over the files of a zone."""
+        word = self.draw.choice(("dump", "prefixes", "match", *({"checkpoint"} & self.commands)))
+        if word == "checkpoint":
+            return Making(files, target, self.running(word))
         if word == "match":
             pattern = [self.pattern_word(place) for place in range(4)]
             title = f"match {' '.join(map(repr, pattern))}"
-            return Trial(title, files, ZONE, lambda folder: run([self.program, "match", folder, *pattern]),
-                         lambda folder: matched(folder, pattern)), data
-        return Trial(word, files, ZONE, self.running(word), wanted_dump if word == "dump" else wanted_prefixes), data
+            return Trial(title, files, target, lambda folder: run([self.program, "match", folder, *pattern]),
+                         lambda folder: matched(folder, pattern))
+        return Trial(word, files, target, self.running(word), wanted_dump if word == "dump" else wanted_prefixes)
 
     def upgrade(self) -> tuple[Upgrade, bytes]:
         """Files of either form, of which an upgrade may have been stopped."""
@@ -278,16 +281,19 @@ class Folders:
         return word if word and b"\0" not in word and not word.startswith(b"-") and is_text(word) else b"*"
 
     def text(self) -> tuple[Trial, bytes]:
-        """A document for `nquads`, or a stream for `replay`, in the place of a file."""
-        if self.draw.random() < 0.5:
+        """A document for `nquads`, or a stream for `replay`, `squash` or `invert`, in the place of a file."""
+        share = 0.7
+        if self.draw.random() < 0.4:
             rows = "".join(self.texts.row(*self.statement()) for _ in range(self.draw.randrange(6))).encode()
-            trial = Trial("nquads", {}, 1, self.reading("nquads"), lambda folder: canonical(stream_in(folder)))
+            trial = self.reading(canonical, "nquads")
         else:
-            rows = self.texts.run(None, self.draw.randrange(5))[0]
-            trial = Trial("replay", {}, 1, self.reading("replay"), lambda folder: replayed(stream_in(folder)))
-        if self.draw.random() < 0.1:
+            count = self.draw.randrange(6)
+            rows = self.texts.run(None, count)[0]
+            trial = self.streaming(rows, count)
+            share = 0.7 if trial.title == "replay" else 0.2
+        if self.draw.random() < share / 7:
             rows += self.draw.choice(self.others)
-        return trial, mutated(rows, self.draw, self.others) if self.draw.random() < 0.7 else rows
+        return trial, mutated(rows, self.draw, self.others) if self.draw.random() < share else rows
 
     def statement(self) -> list[str]:
         terms = [self.texts.term(IRIS, BLANKS), self.texts.term(IRIS), self.texts.term(IRIS, BLANKS, LITERALS)]
@@ -296,8 +302,26 @@ class Folders:
     def running(self, word: str) -> Callable[[Path], Outcome]:
         return lambda folder: run([self.program, word, folder])
 
-    def reading(self, word: str) -> Callable[[Path], Outcome]:
-        return lambda folder: run([self.program, word], stream_in(folder))
+    def streaming(self, rows: bytes, count: int) -> Trial:
+        """One of the commands that read a stream, here of so many patches."""
+        chance = self.draw.random() if "squash" in self.commands else 0
+        if chance < 0.3:
+            return self.reading(replayed, "replay")
+        if chance < 0.7:
+            first, last = sorted(self.draw.randrange(1, max(2, count + 1)) for _ in range(2))
+            last += self.draw.random() < 0.1
+            return self.reading(lambda text: squashed(text, first, last), "squash", str(first), str(last))
+        id = str(uuid.UUID(int=self.draw.getrandbits(128)))
+        known = HYPHENATED.findall(rows)
+        if known and self.draw.random() < 0.1:
+            id = self.draw.choice(known).decode().lower()
+        form = self.draw.choice(("{}", "{{{}}}", "urn:uuid:{}")).format(self.draw.choice((id, id.upper())))
+        return self.reading(lambda text: inverted(text, id), "invert", form)
+
+    def reading(self, wants: Callable[[bytes], Outcome], *words: str) -> Trial:
+        """A command that reads a text."""
+        return Trial(" ".join(words), {}, 1, lambda folder: run([self.program, *words], stream_in(folder)),
+                     lambda folder: wants(stream_in(folder)))
 
     def serve(self, folder: Path) -> Outcome:
         """What `serve` tells where it ends by itself, and else the list of its sources and the heads of their logs."""

@@ -16,9 +16,12 @@ from fuzzing.grammar import RequestTexts, raw
 from fuzzing.lanes import SHARED_WORDS, WORDS, Difference, Lane, Shared
 from fuzzing.talks import LONGEST_WAIT, Talk, Talks
 from journals import framed
-from reading.files import ZONE, Broken, bytes_of, checked, dataset_of, hall_of
+from measure import knows
+from reading.checkpoints import checkpoint
+from reading.files import Broken, bytes_of, checked, hall_of
 from reading.hall import Hall, Source
 from reading.wire import LAST_REQUEST, Call, Request, call_of
+from reading.zones import SECOND, ZONE, dataset_of, zone_of
 from serving import Server
 
 SLOTS = 16
@@ -79,7 +82,7 @@ class Round:
         self.program, self.folder, self.seeds, self.name, self.counts = program, folder, seeds, name, counts
         self.server = Server(program, folder)
         self.draw = seeds.draw(name)
-        self.zone = b""
+        self.zone: dict[int, bytes] = {}
 
     def close(self) -> None:
         """Ends the server if it still runs."""
@@ -204,7 +207,7 @@ class Round:
             raise Difference(differences[0])
 
     def follow(self, actual: Hall) -> None:
-        """Has a zone catch up with a log, and compares its file and its dataset."""
+        """Has a zone catch up with a log, and makes a checkpoint of it; compares its files and its dataset."""
         if not actual.sources:
             return
         name = self.draw.choice(list(actual.sources))
@@ -215,12 +218,24 @@ class Round:
             done = subprocess.run(words, capture_output=True, timeout=60)
             if (done.returncode, done.stdout) != (0, b"caught up at version %d\n" % len(log.patches)):
                 raise Difference(f"sync of {name} prints {done}")
-            self.zone = bytes_of(Path(zone), ZONE)
-            if self.zone != framed(ZONE, log.texts()):
+            if bytes_of(Path(zone), ZONE) != framed(ZONE, log.texts()):
                 raise Difference(f"the zone's file isn't that of the patches of {name}")
+            if knows(self.program, "checkpoint"):
+                self.keep_zone(Path(zone), name)
+            self.zone = {number: data for number in (ZONE, SECOND) if (data := bytes_of(Path(zone), number))}
             dumped = subprocess.run([self.program, "dump", zone], capture_output=True, timeout=60).stdout
             if dumped != dataset_of(Path(zone)).lines():
                 raise Difference(f"dump prints another dataset than that of {name}: {dumped!r}")
+
+
+    def keep_zone(self, zone: Path, name: str) -> None:
+        """Makes a checkpoint of a zone without one, and compares it."""
+        before = zone_of(zone)
+        done = subprocess.run([self.program, "checkpoint", zone], capture_output=True, timeout=60)
+        if (done.returncode, done.stdout) != (0, b"checkpoint at version %d\n" % len(before.brief.ids)):
+            raise Difference(f"checkpoint of a zone of {name} prints {done}")
+        if bytes_of(zone, SECOND) != framed(SECOND, [checkpoint(1, before.brief)]):
+            raise Difference(f"the checkpoint isn't that of the patches of {name}")
 
 
 def groups_of(draw: random.Random, lane: Lane, seeds: Seeds) -> list[bytes]:

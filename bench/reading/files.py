@@ -4,25 +4,10 @@ from collections.abc import Callable
 from pathlib import Path
 
 from reading.hall import MOST_BYTES, MOST_PATCHES, MOST_REGISTRY, Hall, Log
-from reading.texts import (
-    Blank,
-    Dataset,
-    Fault,
-    Iri,
-    Literal,
-    NoRun,
-    Term,
-    read_document,
-    read_patch,
-    read_run,
-    read_stream,
-    read_term,
-    uuid,
-)
+from reading.texts import Dataset, Fault, NoRun, Patch, read_document, read_run, read_stream, uuid
 
-ZONE = 1000
 # A spare's number is so much higher than that of its file.
-SPARE, MARKER, ZONE_MARKER = 2000, 2099, 3099
+SPARE, MARKER = 2000, 2099
 Outcome = tuple[int, bytes, str]
 
 
@@ -83,12 +68,12 @@ def require_no_upgrade(folder: Path, marker: int) -> None:
         raise Broken(f"file {marker}: upgrade pending")
 
 
-def log_of(data: bytes, number: int, is_zone: bool = False) -> Log:
-    """The log in a file, or the patches of a zone."""
+def log_of(data: bytes, number: int) -> Log:
+    """The log in a file."""
     log = Log()
     for payload in payloads_of(data, number, MOST_BYTES):
         try:
-            run = [read_patch(payload)] if is_zone else read_run(payload)
+            run = read_run(payload)
         except (Fault, NoRun):
             run = []
         follows = bool(run) and run[0].prev == log.head() and not any(patch.id in log.versions for patch in run)
@@ -170,34 +155,6 @@ def checked(hall: Hall) -> bytes:
     return "".join(f"{line}\n" for line in lines).encode()
 
 
-def dataset_of(folder: Path) -> Dataset:
-    """The dataset of a directory's zone."""
-    require_no_upgrade(folder, ZONE_MARKER)
-    dataset = Dataset()
-    for patch in log_of(bytes_of(folder, ZONE), ZONE, is_zone=True).patches:
-        dataset.apply(patch)
-    return dataset
-
-
-def matched(folder: Path, words: list[bytes]) -> Outcome:
-    """What `match` prints for a graph, a subject, a predicate and an object."""
-    kinds: list[tuple[type, ...]] = [(Iri, Blank), (Iri, Blank), (Iri,), (Iri, Blank, Literal)]
-    try:
-        pattern = [wanted(word, kind, place == 0) for place, (word, kind) in enumerate(zip(words, kinds))]
-    except (Fault, ValueError):
-        return 2, b"", "rdfdelta: usage: match DIR G S P O\n"
-    return outcome(lambda: dataset_of(folder).lines(tuple(pattern)))
-
-
-def wanted(word: bytes, kinds: tuple[type, ...], is_graph: bool) -> Term | str | None:
-    """What a word of a pattern stands for: None where it is free."""
-    if word == b"*" or is_graph and word == b"default":
-        return None if word == b"*" else "default"
-    term = read_term(word)
-    require(isinstance(term, kinds))
-    return term
-
-
 def input_fault(text: bytes, fault: Fault) -> Outcome:
     line = 1 + text.count(b"\n", 0, fault.at)
     return 3, b"", f"rdfdelta: input: line {line} byte {fault.at}: {fault.kind}\n"
@@ -217,13 +174,20 @@ def replayed(text: bytes) -> Outcome:
         patches = read_stream(text)
     except Fault as fault:
         return input_fault(text, fault)
-    dataset, log = Dataset(), Log()
+    dataset = Dataset()
+    for patch in patches:
+        dataset.apply(patch)
+    return no_chain(patches) or (0, dataset.lines(), "")
+
+
+def no_chain(patches: list[Patch]) -> Outcome | None:
+    """What is told of patches that are no chain."""
+    log = Log()
     for version, patch in enumerate(patches):
         if patch.prev != log.head():
             ids = f"have {log.head() or 'none'}, found {patch.prev or 'none'}"
             return 10, b"", f"rdfdelta: diverged at version {version}: {ids}\n"
         if patch.id in log.versions:
             return 10, b"", f"rdfdelta: repeated id {patch.id} at version {log.versions[patch.id]}\n"
-        dataset.apply(patch)
         log.take([patch], patch.text)
-    return 0, dataset.lines(), ""
+    return None

@@ -2,23 +2,12 @@
 from dataclasses import dataclass, field
 from pathlib import Path
 
-from reading.files import (
-    MARKER,
-    SLOTS,
-    SPARE,
-    ZONE,
-    ZONE_MARKER,
-    Broken,
-    Outcome,
-    bytes_of,
-    first_of,
-    payloads_of,
-)
+from reading.files import MARKER, SLOTS, SPARE, Broken, Outcome, bytes_of, first_of, payloads_of
 from reading.hall import MOST_BYTES, MOST_REGISTRY
+from reading.zones import MOST_OF_FILE, SECOND, ZONE, ZONE_MARKER
 
 # The limits of the form before this one.
-REGISTRY_BEFORE, LOG_BEFORE = 1_048_576, 67_108_864
-SECOND = 1001
+REGISTRY_BEFORE, LOG_BEFORE, ZONE_BEFORE = 1_048_576, 67_108_864, 268_435_456
 Payloads = dict[int, list[bytes]]
 
 
@@ -34,7 +23,8 @@ class Left:
 
 def either(folder: Path, number: int, more: int) -> list[bytes]:
     """The payloads of a file in either form, or of its spare."""
-    limits = (MOST_REGISTRY, REGISTRY_BEFORE) if number == 0 else (MOST_BYTES, LOG_BEFORE)
+    kinds = {0: (MOST_REGISTRY, REGISTRY_BEFORE), ZONE: (MOST_OF_FILE, ZONE_BEFORE), SECOND: (MOST_OF_FILE, ZONE_BEFORE)}
+    limits = kinds.get(number, (MOST_BYTES, LOG_BEFORE))
     return payloads_of(bytes_of(folder, number + more), number + more, *limits)
 
 

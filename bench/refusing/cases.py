@@ -1,9 +1,9 @@
 """What is asked while memory is refused."""
 import json
-import subprocess
 from collections.abc import Iterator
 from pathlib import Path
 
+from measure import knows
 from refusing import folders
 from refusing.commands import Command, Told, Words
 from refusing.folders import FIVE, ID, LINES, LONGEST, SOURCE
@@ -41,7 +41,7 @@ def checked(patches: int, events: int = 2) -> Words:
 
 
 UPGRADED_NONE, UPGRADE_FINISHED = (0, "upgraded 0 files\n", ""), (0, "upgrade finished\n", "")
-DUMPED = Words("dump DIR", (0, DATASET, ""))
+DUMPED, PREFIXES = Words("dump DIR", (0, DATASET, "")), (0, 'PA "ex" <http://e/> .\n', "")
 
 
 def texts(built: Path) -> Iterator[Command]:
@@ -60,12 +60,6 @@ def texts(built: Path) -> Iterator[Command]:
         ("the version", "--version", b"", (0, "rdfdelta 0.3.0\n", "")),
     ]:
         yield Command(built, title, folders.empty, Words(words, says, given))
-
-
-def knows(built: Path, word: str) -> bool:
-    """Whether the program has a command, by its help."""
-    done = subprocess.run([built, "--help"], capture_output=True, text=True, check=True)
-    return f"\n  {word} " in done.stdout
 
 
 def net(built: Path) -> Iterator[Command]:
@@ -103,7 +97,7 @@ def zones(built: Path) -> Iterator[Command]:
     yield Command(built, "zone", folders.empty, Words("zone DIR", (0, "", "")),
                   [fault(1, "refused: file 1000 not empty: 9")], [Words("dump DIR", (0, "", ""))])
     yield Command(built, "dump", folders.zone, DUMPED)
-    yield Command(built, "prefixes", folders.zone, Words("prefixes DIR", (0, 'PA "ex" <http://e/> .\n', "")))
+    yield Command(built, "prefixes", folders.zone, Words("prefixes DIR", PREFIXES))
     for title, pattern, lines in [
         ("match of all quads", "* * * *", DATASET),
         ("match of an object", "default * <http://e/p> <http://e/o3>", LINES[1]),
@@ -115,6 +109,24 @@ def zones(built: Path) -> Iterator[Command]:
 
 
 CAUGHT_UP = Words("sync DIR ADDR ABC", (0, "caught up at version 5\n", ""))
+
+
+def pairs(built: Path) -> Iterator[Command]:
+    """Commands over zones on two files, where the program makes checkpoints."""
+    if not knows(built, "checkpoint"):
+        return
+    made, rows = Words("checkpoint DIR", (0, "checkpoint at version 6\n", "")), Words("prefixes DIR", PREFIXES)
+    yield Command(built, "a checkpoint", folders.zone, made, looks=[DUMPED, rows])
+    yield Command(built, "a checkpoint behind another", folders.pair, made, looks=[DUMPED, rows])
+    most = 2**64 - 1
+    yield Command(built, "a checkpoint behind the last one", folders.last_pair,
+                  Words("checkpoint DIR", fault(1, f"refused: checkpoint too large: have {most}, limit {most}")),
+                  looks=[DUMPED])
+    yield Command(built, "dump behind a checkpoint", folders.pair, DUMPED)
+    yield Command(built, "prefixes behind a checkpoint", folders.pair, rows)
+    yield Command(built, "match behind a checkpoint", folders.pair,
+                  Words("match DIR default * <http://e/p> <http://e/o3>", (0, LINES[1], "")))
+    yield Command(built, "a sync behind a checkpoint", folders.five_kept, CAUGHT_UP, looks=[DUMPED])
 
 
 def clients(built: Path) -> Iterator[Command]:
@@ -241,5 +253,5 @@ def starting(built: Path) -> Iterator[Start]:
 
 
 def cases(built: Path) -> list[Case]:
-    kinds = texts, net, directories, zones, clients, reading, appending, naming, starting
+    kinds = texts, net, directories, zones, pairs, clients, reading, appending, naming, starting
     return [case for kind in kinds for case in kind(built)]

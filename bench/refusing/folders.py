@@ -2,6 +2,8 @@
 from pathlib import Path
 
 from journals import framed, framed_before
+from reading.checkpoints import checkpoint
+from reading.zones import brief_of
 
 ID = "00000000-0000-4000-8000-{:012x}".format
 SOURCE = {"id": ID(9), "name": "ABC", "slot": 1, "uri": "http://e/abc"}
@@ -73,10 +75,35 @@ def pending(folder: Path) -> None:
     write(folder, {0: framed(0, EVENTS)[:8], 1: framed_before(1, FIVE[:2]), **spares, 2099: framed(2099, [b"U"])})
 
 
+# A sixth patch, with prefixes.
+SIXTH = f'H id <uuid:{ID(6)}> .\nH prev <uuid:{ID(5)}> .\nPA "ex" <http://e/> .\nPA "b" <http://b/> .\nPD "b" .\n'.encode()
+
+
 def zone(folder: Path) -> None:
     """A zone that took five patches, and a sixth with prefixes."""
-    last = f'H id <uuid:{ID(6)}> .\nH prev <uuid:{ID(5)}> .\nPA "ex" <http://e/> .\nPA "b" <http://b/> .\nPD "b" .\n'
-    write(folder, {1000: framed(1000, [*FIVE, last.encode()])})
+    write(folder, {1000: framed(1000, [*FIVE, SIXTH])})
+
+
+def kept(generation: int, patches: list[bytes]) -> bytes:
+    """The checkpoint of a zone that took these patches."""
+    return checkpoint(generation, brief_of(patches, 1000))
+
+
+def pair(folder: Path) -> None:
+    """The same zone, with checkpoints behind the second patch and behind the sixth."""
+    six = [*FIVE, SIXTH]
+    write(folder, {1000: framed(1000, [kept(2, six)]), 1001: framed(1001, [kept(1, six[:2]), *six[2:]])})
+
+
+def last_pair(folder: Path) -> None:
+    """A zone in the last generation."""
+    write(folder, {1000: framed(1000, FIVE[:2]), 1001: framed(1001, [kept(2**64 - 1, FIVE[:2]), *FIVE[2:]])})
+
+
+def five_kept(folder: Path) -> None:
+    """A source whose log has five patches, beside a zone that has two of them in a checkpoint."""
+    five(folder)
+    write(folder, {1001: framed(1001, [kept(1, FIVE[:2])])})
 
 
 def old_zone(folder: Path) -> None:

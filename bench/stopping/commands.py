@@ -6,9 +6,11 @@ from dataclasses import dataclass, field
 from pathlib import Path
 
 from journals import framed, framed_before
-from reading.files import payloads_of
+from reading.files import Broken, payloads_of
+from measure import knows
+from reading.zones import zone_of
 from refusing import folders
-from refusing.folders import FIVE, LINES
+from refusing.folders import FIVE, LINES, kept
 from refusing.orders import END
 from refusing.served import Served
 from stopping.disks import Disk, Image, cuts, image_of
@@ -165,6 +167,60 @@ def settle_sync(run: Run, is_done: bool) -> None:
     run.require("dump DIR", (0, dataset(5), ""))
 
 
+def keeping(version: int, generation: int) -> Settle:
+    """A zone of a version, of which a checkpoint is made in a generation, has that version; it goes on with either."""
+
+    def settle(run: Run, is_done: bool) -> None:
+        try:
+            zone = zone_of(run.folder)
+        except Broken as fault:
+            raise Differs(str(fault)) from fault
+        if len(zone.brief.ids) != version or zone.generation not in (generation - 1, generation)[is_done:]:
+            raise Differs(f"it has version {len(zone.brief.ids)} in generation {zone.generation}")
+        run.require("dump DIR", (0, dataset(version), ""))
+        run.require("checkpoint DIR", (0, f"checkpoint at version {version}\n", ""))
+        run.require("sync DIR ADDR ABC", (0, "caught up at version 5\n", ""))
+        run.require("dump DIR", (0, dataset(5), ""))
+
+    return settle
+
+
+def settle_sync_behind(run: Run, is_done: bool) -> None:
+    """A zone that had two patches in a checkpoint has a front of its log, and goes on."""
+    try:
+        version = len(zone_of(run.folder).brief.ids)
+    except Broken as fault:
+        raise Differs(str(fault)) from fault
+    if not (5 if is_done else 2) <= version <= 5:
+        raise Differs(f"it has version {version}")
+    run.require("dump DIR", (0, dataset(version), ""))
+    run.require("sync DIR ADDR ABC", (0, "caught up at version 5\n", ""))
+    run.require("dump DIR", (0, dataset(5), ""))
+
+
+def pairs(program: Path, source: Image) -> list[Command]:
+    """Commands over zones on two files, beside a server whose log goes on, where the program makes checkpoints."""
+    if not knows(program, "checkpoint", "stopping one is"):
+        return []
+    first, behind = {1000: framed(1000, FIVE[:3])}, [kept(1, FIVE[:3]), FIVE[3]]
+    # What was in doubt behind a shut gate is longer than what comes there, and a gate within it is open.
+    doubted = framed(1001, [])[:8] + b"\0" + framed(1001, [b"x" * 300, kept(7, FIVE), *FIVE])[9:]
+    in_doubt = {1000: first[1000] + framed(1000, [*FIVE, *FIVE])[9:], 1001: doubted}
+    done: dict[int, Told] = {version: (0, f"checkpoint at version {version}\n", "") for version in (3, 4)}
+    word, synced = "checkpoint DIR", "sync DIR ADDR ABC"
+    two = {1000: framed(1000, FIVE[:2]), 1001: framed(1001, [kept(1, FIVE[:2])])}
+    return [
+        Command(program, "checkpoint", first, word, done[3], keeping(3, 1), source),
+        Command(program, "checkpoint over what was in doubt", in_doubt, word, done[3], keeping(3, 1), source),
+        Command(program, "checkpoint behind another", {**first, 1001: framed(1001, behind)}, word, done[4],
+                keeping(4, 2), source),
+        Command(program, "sync behind a checkpoint", two, synced, (0, "caught up at version 5\n", ""),
+                settle_sync_behind, source),
+        *(Command(program, f"{words} behind a checkpoint", two, words, says, looking(words, says))
+          for words, says in (("dump DIR", (0, dataset(2), "")), ("prefixes DIR", (0, "", "")))),
+    ]
+
+
 def upgrading(before: Image, word: str, look: str, looked: Told) -> Settle:
     """Has the files upgraded, and looks at them by another command, which tells nothing else meanwhile."""
     state: State = {number: payloads_of(file, number, NO_LIMIT, NO_LIMIT) for number, file in before.items()}
@@ -199,6 +255,7 @@ def commands(program: Path) -> list[Command]:
                 upgrading(zone, "upgrade_zone", "dump DIR", dumped)),
         Command(program, "upgrade of two files of a zone", two, "upgrade_zone DIR", (0, "upgraded 2 files\n", ""),
                 upgrading(two, "upgrade_zone", "dump DIR", (0, dataset(5), ""))),
+        *pairs(program, source),
         *looks(program),
     ]
 

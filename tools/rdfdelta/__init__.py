@@ -17,6 +17,7 @@ from rdfdelta.errors import (
     Damaged,
     Full,
     Held,
+    Kept,
     Known,
     LinkFailed,
     NoPatch,
@@ -40,7 +41,7 @@ if TYPE_CHECKING:
 __version__ = "0.3.0"
 __all__ = [
     "Appended", "AppendedRun", "BadAddress", "BadFile", "BadPatch", "BadRun", "Conflict", "Damaged", "Follower", "Full",
-    "Held", "Journal", "Known", "Link", "LinkFailed", "Log", "LogState", "NoPatch", "NoRuns", "NoSource",
+    "Held", "Journal", "Kept", "Known", "Link", "LinkFailed", "Log", "LogState", "NoPatch", "NoRuns", "NoSource",
     "NotUnderstood", "OldFormat", "Parted", "Pending", "ProgramFailed", "RdfDeltaError", "Refused", "Registry",
     "Server", "Source", "read_link",
 ]

@@ -125,6 +125,15 @@ class Damaged(BadFile):
         self.at = at
 
 
+class Kept(RdfDeltaError):
+    """The patches up to `version` have gone into a checkpoint: a zone keeps what they did, and no texts."""
+
+    def __init__(self, path: Path, version: int) -> None:
+        super().__init__(f"{path}: the texts up to version {version} have gone into a checkpoint")
+        self.path = path
+        self.version = version
+
+
 class Parted(RdfDeltaError):
     """A log isn't the one that was copied or followed: another one, or restored from an older copy."""
 

@@ -2,33 +2,43 @@
 
 Damage is told with its byte and nothing behind it is guessed. A file is read only while no program writes it. One of
 the old form is refused, but where it is to be written anew, and so is one whose upgrade was stopped. A payload of a log
-is a run, so it has one patch or more; one of a zone is a patch.
+is a run, so it has one patch or more; one of a zone is a patch, and the first one may be a checkpoint.
+
+A zone has two files, of which the one with the later checkpoint is current. What the other one has counts no more.
 """
 from __future__ import annotations
 
 import re
 import uuid
 from collections.abc import Iterator, Sequence
-from dataclasses import dataclass
+from contextlib import ExitStack
+from dataclasses import dataclass, replace
 from enum import Enum
 from pathlib import Path
-from typing import BinaryIO, NoReturn
+from typing import NoReturn
 
 from rdfdelta import errors, locks
 from rdfdelta.answers import Source
+from rdfdelta.checkpoint import FILE_LIMIT, FIRST_LIMIT, MARK, Checkpoint, first_line
 from rdfdelta.patches import PATCH_LIMIT, Link, Patch, split
 from rdfdelta.server import LOG_LIMIT, PATCHES_LIMIT, REGISTRY_LIMIT
 
 FIELD, HEADER = 4, 8
 # What stands before a payload: its gate, its running number and its length.
 FRAME = 1 + 2 * FIELD
-REGISTRY, ZONE = 0, 1000
+REGISTRY, ZONE, SECOND = 0, 1000, 1001
+# The files of a zone. The second one is there once a checkpoint was made.
+ZONES = (ZONE, SECOND)
+# The most bytes of one: of a checkpoint and all later patches.
+ZONE_FILE_LIMIT = 805_306_368
 # The files that a folder may have: the registry's, the logs', a zone's.
-NUMBERS = (REGISTRY, *range(1, 17), ZONE)
+NUMBERS = (REGISTRY, *range(1, 17), *ZONES)
 # An upgrade copies each file to its spare, whose number is so much higher. While its marker stands, the spares count.
 SPARE = 2000
 MARKERS = {REGISTRY: 2099, ZONE: 3099}
 OPEN, SHUT = b"\x01", b"\x00"
+# The last value of 64 bits.
+MOST = 2**64 - 1
 _FILE_NAME = re.compile(r"rdj-([0-9]{4})")
 
 
@@ -52,25 +62,25 @@ def kind_of(number: int) -> int:
 
 def limit_of(number: int) -> int:
     """The most bytes of the file of a number."""
+    if kind_of(number) in ZONES:
+        return ZONE_FILE_LIMIT
     return REGISTRY_LIMIT if kind_of(number) == REGISTRY else LOG_LIMIT
 
 
 def marker_of(folder: Path, number: int) -> Path:
     """The marker of an upgrade of a server's files or of a zone, whichever has the file of a number."""
-    return file_of(folder, MARKERS[ZONE if number == ZONE else REGISTRY])
+    return file_of(folder, MARKERS[ZONE if number in ZONES else REGISTRY])
 
 
 def upgrade_of(folder: Path, number: int) -> str:
     """The words that upgrade a server's files or a zone, whichever has the file of a number."""
-    return f"rdfdelta {'upgrade_zone' if number == ZONE else 'upgrade'} {folder}"
+    return f"rdfdelta {'upgrade_zone' if number in ZONES else 'upgrade'} {folder}"
 
 
 def check_marker(folder: Path, number: int) -> None:
     """Refuses a folder where an upgrade was stopped: the file of this number may be written in part."""
     marker = marker_of(folder, number)
-    content = marker.read_bytes() if marker.exists() else b""
-    # One of no more bytes says nothing, whatever they are.
-    if len(content) > HEADER + 1 and Journal.parse(marker, content).payloads:
+    if first_of(marker, marker.read_bytes() if marker.exists() else b"") is not None:
         raise errors.Pending(marker)
 
 
@@ -83,7 +93,17 @@ def pieces_of(number: int, payloads: Sequence[bytes]) -> Iterator[bytes]:
     yield SHUT
 
 
-def _field(content: bytes, at: int) -> int | None:
+def first_of(path: Path, content: bytes) -> bytes | None:
+    """The first payload of a file, which is read no further; none where it has at most nine bytes, or a gate that is
+    shut."""
+    if len(content) <= HEADER + 1:
+        return None
+    form, _ = _header(path, content)
+    payloads, _ = _payloads(path, content, form, most=1)
+    return payloads[0] if payloads else None
+
+
+def field_at(content: bytes, at: int) -> int | None:
     """The number that stands at a place, or none where it isn't whole."""
     found = content[at:at + FIELD]
     return int.from_bytes(found, "big") if len(found) == FIELD else None
@@ -97,12 +117,15 @@ class Journal:
     number: int
     payloads: tuple[bytes, ...]
     end: int
+    # Of a zone, what the file beside has from before the checkpoint.
+    beside: Journal | None = None
 
     @classmethod
     def read(cls, name: Path | str) -> Journal:
         """Reads a file, or the zone of a folder, under a lock that keeps programs away meanwhile."""
         path = Path(name)
-        path = file_of(path, ZONE) if path.is_dir() else path
+        if path.is_dir():
+            return _zone_of(path)
         try:
             with path.open("rb") as file, locks.shared(file, path):
                 named = _FILE_NAME.fullmatch(path.name)
@@ -115,49 +138,122 @@ class Journal:
     @classmethod
     def parse(cls, path: Path, content: bytes, takes_old: bool = False) -> Journal:
         """The journal that these bytes of a file are."""
-        form = next((form for form in Form if content.startswith(form.value)), None)
-        if len(content) < HEADER or form is None:
-            raise errors.Damaged(path, 0)
-        if form is Form.OLD and not takes_old:
-            raise errors.OldFormat(path)
-        number = int.from_bytes(content[FIELD:HEADER], "big")
-        named = _FILE_NAME.fullmatch(path.name)
-        if named and int(named[1]) != number:
-            raise errors.BadFile(path, f"wrong number {number}")
+        form, number = _header(path, content, takes_old)
         payloads, end = _payloads(path, content, form)
         if end + 1 > limit_of(number):
             raise errors.BadFile(path, f"over limit: have {end + 1}, limit {limit_of(number)}")
         return cls(path, number, payloads, end)
 
+    def checkpoint(self) -> Checkpoint | None:
+        """The checkpoint that stands first in a zone's file, where there is one."""
+        first = self.payloads[0] if kind_of(self.number) in ZONES and self.payloads else b""
+        if not first.startswith(MARK):
+            return None
+        found = Checkpoint.parse(first) if HEADER + 1 + FRAME + len(first) <= FILE_LIMIT else None
+        return found or _broken(self.path, "checkpoint")
+
     def links(self) -> list[Link]:
-        """The ids of the patches, which are seen to be a chain."""
-        return [patch.link for patch in self._chain()]
+        """The ids of the patches, which are seen to be a chain; those of a checkpoint are there too."""
+        begun, patches = self._chain()
+        return [*map(Link, begun, [None, *begun]), *(patch.link for patch in patches)]
 
     def patches(self, start: int = 1) -> Iterator[tuple[int, bytes]]:
-        """The patches from a version on, once all were seen to be a chain."""
-        found = self._chain()
-        yield from ((version, found[version - 1].text) for version in range(start, len(found) + 1))
+        """The patches from a version on, once all were seen to be a chain. A checkpoint has no texts of them: those
+        before it come of the file beside, as long as that has them."""
+        begun, found = self._chain()
+        if start <= len(begun):
+            texts = self._texts_before(begun)
+            if start <= len(begun) - len(texts):
+                raise errors.Kept(self.path, len(begun) - len(texts))
+        else:
+            texts = []
+        texts += [patch.text for patch in found]
+        first = len(begun) + len(found) - len(texts) + 1
+        yield from ((version, text) for version, text in enumerate(texts, first) if version >= start)
 
-    def _chain(self) -> list[Patch]:
-        """The patches, each payload's behind those of the payloads before it."""
+    def _texts_before(self, begun: tuple[str, ...]) -> list[bytes]:
+        """The newest of the patches with these ids that the file beside has, where it has them up to the last one."""
+        try:
+            kept, found = self.beside._chain() if self.beside else ((), [])
+        except errors.BadFile:
+            return []
+        ids = (*kept, *(patch.link.id for patch in found))
+        count = max(0, len(begun) - len(kept))
+        return [patch.text for patch in found[:count]] if ids[:len(begun)] == begun else []
+
+    def _chain(self) -> tuple[tuple[str, ...], list[Patch]]:
+        """The ids of a checkpoint, and the patches behind it, each payload's behind those of the payloads before it."""
         if kind_of(self.number) == REGISTRY:
             raise errors.BadFile(self.path, "the registry has no patches")
+        checkpoint = self.checkpoint()
+        begun = checkpoint.ids if checkpoint else ()
         chain: list[Patch] = []
         seen: set[str] = set()
-        for payload in self.payloads:
+        for version, id in enumerate(begun, 1):
+            if id in seen or version > PATCHES_LIMIT:
+                _broken(self.path, f"chain at version {version}")
+            seen.add(id)
+        for payload in self.payloads[checkpoint is not None:]:
             run = run_of(self.number, payload)
             ids = [patch.link.id for patch in run]
-            prevs = [chain[-1].link.id if chain else None, *ids[:-1]]
-            is_next = [patch.link.prev for patch in run] == prevs and len(set(ids)) == len(ids)
-            if not is_next or not seen.isdisjoint(ids) or len(chain) + len(run) > PATCHES_LIMIT:
-                raise errors.BadFile(self.path, f"broken chain at version {len(chain) + 1}")
+            head = chain[-1].link.id if chain else begun[-1] if begun else None
+            is_next = [patch.link.prev for patch in run] == [head, *ids[:-1]] and len(set(ids)) == len(ids)
+            if not is_next or not seen.isdisjoint(ids) or len(seen) + len(run) > PATCHES_LIMIT:
+                _broken(self.path, f"chain at version {len(seen) + 1}")
             chain += run
             seen.update(ids)
         # The limit counts each patch as if it stood by itself.
-        size = HEADER + 1 + sum(FRAME + len(patch.text) for patch in chain)
-        if size > limit_of(self.number):
-            raise errors.BadFile(self.path, f"over limit: have {size}, limit {limit_of(self.number)}")
-        return chain
+        taken = checkpoint.counts.size if checkpoint else 0
+        size = HEADER + 1 + FRAME * len(seen) + taken + sum(len(patch.text) for patch in chain)
+        if size > LOG_LIMIT:
+            raise errors.BadFile(self.path, f"over limit: have {min(size, MOST)}, limit {LOG_LIMIT}")
+        return begun, chain
+
+
+def _broken(path: Path, what: str) -> NoReturn:
+    raise errors.BadFile(path, f"broken {what}")
+
+
+def _zone_of(folder: Path) -> Journal:
+    """The journal of a zone's current file, under locks of both. Of these one may not be there."""
+    contents: dict[int, bytes] = {}
+    missing: dict[int, FileNotFoundError] = {}
+    with ExitStack() as stack:
+        for number in ZONES:
+            path = file_of(folder, number)
+            try:
+                file = stack.enter_context(path.open("rb"))
+                stack.enter_context(locks.shared(file, path))
+                contents[number] = file.read()
+            except FileNotFoundError as error:
+                missing[number] = error
+            except OSError as error:
+                raise errors.BadFile(path, error.strerror or str(error)) from error
+        check_marker(folder, ZONE)
+    number = current_of(folder, [contents.get(number, b"") for number in ZONES])
+    if number in missing:
+        raise errors.BadFile(file_of(folder, number), missing[number].strerror) from missing[number]
+    other = SECOND if number == ZONE else ZONE
+    current = Journal.parse(file_of(folder, number), contents[number])
+    try:
+        return replace(current, beside=Journal.parse(file_of(folder, other), contents.get(other, b"")))
+    except errors.BadFile:
+        return current
+
+
+def current_of(folder: Path, contents: Sequence[bytes]) -> int:
+    """Which of a zone's files is current, by what they have: the one in the later generation."""
+    fronts = [first_of(file_of(folder, number), content) for number, content in zip(ZONES, contents)]
+    first, second = (_generation(file_of(folder, number), front) for number, front in zip(ZONES, fronts))
+    return SECOND if second is not None and second > (first or 0) else ZONE
+
+
+def _generation(path: Path, front: bytes | None) -> int | None:
+    """The generation of a zone's file by its first payload; none without a checkpoint."""
+    if front is None or not front.startswith(MARK):
+        return None
+    found = first_line(front[:FIRST_LIMIT])
+    return found[0].generation if found else _broken(path, "checkpoint")
 
 
 def run_of(number: int, payload: bytes) -> list[Patch]:
@@ -166,20 +262,34 @@ def run_of(number: int, payload: bytes) -> list[Patch]:
         run = split(payload) if len(payload) <= PATCH_LIMIT else []
     except errors.BadPatch:
         return []
-    return run if kind_of(number) != ZONE or len(run) == 1 else []
+    return run if kind_of(number) not in ZONES or len(run) == 1 else []
 
 
-def _payloads(path: Path, content: bytes, form: Form) -> tuple[tuple[bytes, ...], int]:
-    """The payloads behind a file's header, and the byte of the gate that ends them."""
+def _header(path: Path, content: bytes, takes_old: bool = False) -> tuple[Form, int]:
+    """The form and the number of a file."""
+    form = next((form for form in Form if content.startswith(form.value)), None)
+    if len(content) < HEADER or form is None:
+        raise errors.Damaged(path, 0)
+    if form is Form.OLD and not takes_old:
+        raise errors.OldFormat(path)
+    number = int.from_bytes(content[FIELD:HEADER], "big")
+    named = _FILE_NAME.fullmatch(path.name)
+    if named and int(named[1]) != number:
+        raise errors.BadFile(path, f"wrong number {number}")
+    return form, number
+
+
+def _payloads(path: Path, content: bytes, form: Form, most: int = MOST) -> tuple[tuple[bytes, ...], int]:
+    """The payloads behind a file's header, and the byte of the gate that ends them; or so many, and where they end."""
     payloads: list[bytes] = []
     at = HEADER
-    while content[at:at + 1] == OPEN:
+    while len(payloads) < most and content[at:at + 1] == OPEN:
         at += 1
         if form is Form.NEW:
-            if _field(content, at) != len(payloads) + 1:
+            if field_at(content, at) != len(payloads) + 1:
                 raise errors.Damaged(path, at)
             at += FIELD
-        length = _field(content, at)
+        length = field_at(content, at)
         if length is None:
             raise errors.Damaged(path, at)
         at += FIELD
@@ -187,61 +297,9 @@ def _payloads(path: Path, content: bytes, form: Form) -> tuple[tuple[bytes, ...]
             raise errors.Damaged(path, at)
         payloads.append(content[at:at + length])
         at += length
-    if at == len(content):
+    if len(payloads) < most and at == len(content):
         raise errors.Damaged(path, at)
     return tuple(payloads), at
-
-
-class Counter:
-    """Counts the patches of a journal that another process may be writing: a gate that is open has all that stands
-    behind it on the disk, so the payloads in front of one that isn't are whole. It goes on where it stopped."""
-
-    def __init__(self, path: Path) -> None:
-        self.path = path
-        self.count = 0
-        self._payloads = 0
-        self._at = HEADER
-        # Where the newest patch stands, and how long it is.
-        self._newest = (0, 0)
-
-    def look(self) -> int:
-        try:
-            with self.path.open("rb") as file:
-                head = file.read(HEADER)
-                number = _field(head, FIELD)
-                if number is not None and head.startswith(Form.NEW.value):
-                    while self._take(file, number):
-                        pass
-        except FileNotFoundError:
-            pass
-        return self.count
-
-    def newest(self) -> bytes | None:
-        """The newest patch of those counted."""
-        if self.count == 0:
-            return None
-        at, length = self._newest
-        with self.path.open("rb") as file:
-            file.seek(at)
-            return file.read(length)
-
-    def _take(self, file: BinaryIO, number: int) -> bool:
-        """Counts the patches of the next payload; whether its gate is open."""
-        file.seek(self._at)
-        frame = file.read(FRAME)
-        length = _field(frame, 1 + FIELD)
-        if not frame.startswith(OPEN) or _field(frame, 1) != self._payloads + 1 or length is None:
-            return False
-        # A zone's payload isn't read: it is one patch.
-        run = [] if number == ZONE else run_of(number, file.read(length))
-        sizes = [length] if number == ZONE else [len(patch.text) for patch in run]
-        if not sizes:
-            return False
-        self._payloads += 1
-        self._at += FRAME + length
-        self._newest = (self._at - sizes[-1], sizes[-1])
-        self.count += len(sizes)
-        return True
 
 
 @dataclass(frozen=True, slots=True)
@@ -260,7 +318,7 @@ class Registry:
         first = journal.payloads[0] if journal.payloads else b""
         found = re.fullmatch(rb"S ([1-9][0-9]?)", first)
         if found is None or int(found[1]) > 16:
-            _broken(journal.path, 0)
+            _broken(journal.path, "event at 0")
         slots = int(found[1])
         living: dict[int, Source] = {}
         used = 0
@@ -268,14 +326,10 @@ class Registry:
             try:
                 used = _take(living, used, payload.decode("utf-8").split(" "))
             except (KeyError, ValueError):
-                _broken(journal.path, place)
+                _broken(journal.path, f"event at {place}")
             if used > slots:
-                _broken(journal.path, place)
+                _broken(journal.path, f"event at {place}")
         return cls(slots, used, tuple(living[slot] for slot in sorted(living)))
-
-
-def _broken(path: Path, place: int) -> NoReturn:
-    raise errors.BadFile(path, f"broken event at {place}")
 
 
 def _take(living: dict[int, Source], used: int, parts: list[str]) -> int:

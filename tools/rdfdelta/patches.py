@@ -11,9 +11,9 @@ from rdfdelta import errors
 from rdfdelta.rows import Iri, Literal, Row, read_rows
 
 PATCH_LIMIT = 4_194_304
-_HEX = "[0-9A-Fa-f]"
-_HYPHENATED = rf"{_HEX}{{8}}(?:-{_HEX}{{4}}){{3}}-{_HEX}{{12}}"
-_UUID = re.compile(rf"(?:urn:)?(?:uuid:)?({_HYPHENATED}|\{{{_HYPHENATED}\}}|{_HEX}{{32}})")
+_HYPHENATED = "[0-9a-f]{8}(?:-[0-9a-f]{4}){3}-[0-9a-f]{12}"
+_UUID = re.compile(rf"[0-9a-f]{{32}}|{_HYPHENATED}|\{{{_HYPHENATED}\}}|urn:uuid:{_HYPHENATED}")
+_ID_VALUE = re.compile(r"(?:urn:)?uuid:(.*)", re.DOTALL)
 _ID_ROW = re.compile(rb"H[ \t\r\n]+id(?![A-Za-z0-9_-])")
 
 
@@ -38,11 +38,16 @@ def draw_id() -> str:
 
 
 def _id_of(row: Row) -> str:
-    value = row.parts[1]
-    found = _UUID.fullmatch(value.value) if isinstance(value, Iri | Literal) else None
-    if found is None:
+    text = ""
+    match row.parts[1]:
+        case Iri(value) if found := _ID_VALUE.fullmatch(value):
+            text = found[1]
+        case Literal(value, None, None):
+            text = value
+    # Of letters out of ASCII some have one of ASCII in lower case.
+    if not text.isascii() or not _UUID.fullmatch(text.lower()):
         raise errors.BadPatch(row.at, row.line, "the value is no id")
-    return str(uuid.UUID(found[1]))
+    return str(uuid.UUID(text.lower()))
 
 
 def _key_of(row: Row) -> str | None:

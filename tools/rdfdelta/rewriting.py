@@ -6,13 +6,26 @@ stopped, that is to be ended first.
 """
 from __future__ import annotations
 
+import os
 from collections.abc import Callable, Iterator
 from contextlib import ExitStack, contextmanager
 from pathlib import Path
 from typing import BinaryIO
 
 from rdfdelta import errors, files, locks
-from rdfdelta.journal import NUMBERS, REGISTRY, ZONE, Journal, Registry, check_marker, file_of, limit_of, pieces_of
+from rdfdelta.journal import (
+    HEADER,
+    NUMBERS,
+    REGISTRY,
+    SECOND,
+    ZONE,
+    Journal,
+    Registry,
+    check_marker,
+    file_of,
+    limit_of,
+    pieces_of,
+)
 
 # What is done, how many files it is done with, and of how many.
 Look = Callable[[str, int, int], None]
@@ -33,9 +46,14 @@ class _Old:
         file.seek(0)
         return Journal.parse(path, file.read(), takes_old=True)
 
+    def _length(self, number: int) -> int:
+        return self._opened[number].seek(0, os.SEEK_END)
+
     def numbers(self) -> list[int]:
         """The numbers of the files that the program opens there."""
         zone = [ZONE] if ZONE in self._opened else []
+        # One of no more bytes holds nothing.
+        zone += [SECOND] if zone and SECOND in self._opened and self._length(SECOND) > HEADER + 1 else []
         if zone and REGISTRY not in self._opened:
             return zone
         return [*range(Registry.of(self.journal(REGISTRY)).slots + 1), *zone]

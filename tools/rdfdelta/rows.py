@@ -77,11 +77,11 @@ _LABEL_NEXT = _LABEL_FIRST + "\u00b7\u0300-\u036f\u203f-\u2040-"
 _LABEL = rf"[{_LABEL_FIRST}](?:[{_LABEL_NEXT}.]*[{_LABEL_NEXT}])?"
 _WHOLE_LABEL = re.compile(_LABEL)
 _IRI_CHARACTERS = r"[^\x00-\x20<>\"{}|^`\\]*"
-_IRI = rf"<(?!_:)({_IRI_CHARACTERS}(?:(?:{_CODE_POINT}){_IRI_CHARACTERS})*)>"
+_IRI = rf"<({_IRI_CHARACTERS}(?:(?:{_CODE_POINT}){_IRI_CHARACTERS})*)>"
 _STRING_CHARACTERS = r"[^\"\\\n\r]*"
 _STRING = rf"\"({_STRING_CHARACTERS}(?:(?:\\[tbnrf\"'\\]|{_CODE_POINT}){_STRING_CHARACTERS})*)\""
 _TERM = re.compile(
-    rf"{_IRI}|_:({_LABEL})|<_:({_LABEL})>"
+    rf"{_IRI}|_:({_LABEL})"
     rf"|{_STRING}(?:@([A-Za-z]+(?:-[A-Za-z0-9]+)*)|[ \t]*\^\^[ \t]*{_IRI})?"
 )
 _ESCAPE = re.compile(rf"{_CODE_POINT}|\\.")
@@ -89,6 +89,14 @@ _BETWEEN = re.compile(r"[ \t\r\n]*(?:#[^\r\n]*[ \t\r\n]*)*")
 _CODE = re.compile(r"(TX|TC|TA|PA|PD|A|D|H)(?![A-Za-z])")
 _KEY = re.compile(r"[A-Za-z][A-Za-z0-9_-]*")
 _PREFIX_WORD = re.compile(r"([A-Za-z][A-Za-z0-9_-]*)?:|([A-Za-z][A-Za-z0-9_-]*)")
+# A quad as it is printed: no escape is used that isn't needed, and no datatype is told that a literal has anyway.
+_PRINTED_IRI = rf"<(?=[A-Za-z][A-Za-z0-9+.-]*:){_IRI_CHARACTERS}>"
+_PRINTED_LITERAL = (
+    rf'"[^"\\\n\r]*(?:\\["\\nr][^"\\\n\r]*)*"'
+    rf"(?:@[a-z]+(?:-[a-z0-9]+)*|\^\^(?!<{re.escape(XSD_STRING)}>|<{re.escape(RDF_LANG_STRING)}>){_PRINTED_IRI})?"
+)
+_NODE = rf"(?:{_PRINTED_IRI}|_:{_LABEL})"
+_PRINTED = re.compile(rf"{_NODE} {_PRINTED_IRI} (?:{_NODE}|{_PRINTED_LITERAL})(?: {_NODE})? \.")
 # How many terms stand behind a code, at least and at most; a key or a prefix is the first part of its row.
 _COUNTS = {"H": (2, 2), "TX": (0, 0), "TC": (0, 0), "TA": (0, 0), "PA": (2, 3), "PD": (1, 2), "A": (3, 4), "D": (3, 4)}
 
@@ -99,6 +107,11 @@ def is_iri(value: str) -> bool:
 
 def is_label(value: str) -> bool:
     return _WHOLE_LABEL.fullmatch(value) is not None
+
+
+def is_printed(line: str) -> bool:
+    """Whether this is a quad's canonical line, but for its end."""
+    return _PRINTED.fullmatch(line) is not None
 
 
 class _Reader:
@@ -150,6 +163,17 @@ class _Reader:
             self.refuse(at, "an IRI without a scheme")
         return Iri(text)
 
+    def bracketed(self, at: int, text: str) -> Iri | Blank:
+        """The IRI or the blank node of what stands in brackets."""
+        if not text.startswith(("_", "\\")):
+            return self.iri(at, text)
+        value = self.unescape(at, text)
+        if not value.startswith("_:"):
+            return self.iri(at, text)
+        if not is_label(value[2:]):
+            self.refuse(at, "no label of a blank node")
+        return Blank(value[2:])
+
     def named(self, at: int, value: str) -> Iri:
         if not is_iri(value):
             self.refuse(at, "an IRI with a character that none holds, or without a scheme")
@@ -160,11 +184,11 @@ class _Reader:
         if found is None:
             self.refuse(self.at, "no term stands here")
         at, self.at = self.at, found.end()
-        iri, label, bracketed, value, language, datatype = found.groups()
+        iri, label, value, language, datatype = found.groups()
         if iri is not None:
-            return self.iri(at, iri)
+            return self.bracketed(at, iri)
         if value is None:
-            return Blank(label or bracketed)
+            return Blank(label)
         value = self.unescape(at, value)
         if language is not None:
             return Literal(value, language=language.lower())

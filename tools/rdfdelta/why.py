@@ -12,7 +12,18 @@ from dataclasses import dataclass
 from pathlib import Path
 
 from rdfdelta import errors, locks, sockets
-from rdfdelta.journal import MARKERS, NUMBERS, REGISTRY, ZONE, Journal, Registry, check_marker, file_of, upgrade_of
+from rdfdelta.journal import (
+    MARKERS,
+    NUMBERS,
+    REGISTRY,
+    ZONE,
+    ZONES,
+    Journal,
+    Registry,
+    check_marker,
+    file_of,
+    upgrade_of,
+)
 from rdfdelta.server import Server
 
 ROOM = 4_194_304 + 4_096
@@ -108,10 +119,9 @@ def _of_files(folder: Path) -> list[Finding]:
     findings = [finding for kind, path in markers.items() for finding in _of_marker(path, kind)]
     if findings:
         return findings
-    findings = [finding for path in files for finding in _of_file(path)]
-    if file_of(folder, ZONE) not in files:
-        findings += _of_slots(folder, files)
-    return findings
+    zone = [path for path in files if path in [file_of(folder, number) for number in ZONES]]
+    findings = [finding for path in files if path not in zone for finding in _of_file(path)]
+    return [*findings, *(_of_zone(folder, zone) if zone else _of_slots(folder, files))]
 
 
 def _of_use(path: Path) -> list[Finding]:
@@ -139,13 +149,20 @@ def _to_upgrade(error: errors.BadFile, number: int) -> Finding:
 
 
 def _of_file(path: Path) -> list[Finding]:
-    findings = _of_use(path)
-    if findings:
-        return findings
+    return _of_use(path) or _of_reading(path, int(path.name[-4:]))
+
+
+def _of_zone(folder: Path, files: list[Path]) -> list[Finding]:
+    """The findings of a zone, of whose files the one that isn't current may have anything behind its front."""
+    return [finding for path in files for finding in _of_use(path)] or _of_reading(folder, ZONE)
+
+
+def _of_reading(path: Path, number: int) -> list[Finding]:
+    """Whether the file of a number can be read, or a zone."""
     try:
         Journal.read(path)
     except errors.OldFormat as error:
-        return [_to_upgrade(error, int(path.name[-4:]))]
+        return [_to_upgrade(error, number)]
     except errors.RdfDeltaError as error:
         return [Finding(str(error), True, "see Restoring in OPERATING.md")]
     return []

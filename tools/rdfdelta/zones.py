@@ -1,8 +1,8 @@
 """Zones: folders in which the program keeps a copy of a log with its dataset.
 
-The program locks a zone's file while it has it, and whoever comes meanwhile is told that the disk failed. So all that
-goes through here waits for a lock file of its own beside it first. The program has that lock too: it goes on where
-whoever called it was killed.
+The program locks a zone's files while it has them, and whoever comes meanwhile is told that the disk failed. So all
+that goes through here waits for a lock file of its own beside them first. The program has that lock too: it goes on
+where whoever called it was killed.
 """
 from __future__ import annotations
 
@@ -12,8 +12,8 @@ from pathlib import Path
 
 from rdfdelta import errors, locks
 from rdfdelta.answers import LogState
-from rdfdelta.journal import ZONE, Counter, file_of, upgrade_of
-from rdfdelta.patches import read_link
+from rdfdelta.counter import ZoneCounter
+from rdfdelta.journal import HEADER, ZONE, ZONES, file_of, upgrade_of
 from rdfdelta.program import Program
 from rdfdelta.server import Log
 
@@ -29,9 +29,9 @@ class Zone:
     def __init__(self, folder: Path, program: Program, tell: Callable[[str], None] | None = None) -> None:
         self.folder = folder
         self.program = program
-        self.file = file_of(folder, ZONE)
+        self.files = [file_of(folder, number) for number in ZONES]
         self._tell = tell
-        self._counter = Counter(self.file)
+        self._counter = ZoneCounter(folder)
 
     @contextmanager
     def alone(self) -> Iterator[int]:
@@ -45,14 +45,18 @@ class Zone:
         """Makes the folder and the zone in it where there is none."""
         self.folder.mkdir(parents=True, exist_ok=True)
         with self.alone() as lock:
-            if not self.file.exists() or self.file.stat().st_size == 0:
+            first, second = (path.stat().st_size if path.exists() else 0 for path in self.files)
+            if first == 0 and second <= HEADER + 1:
                 self.program.run("zone", self.folder, given=[lock])
 
     def state(self) -> LogState:
         """The version of the zone and its newest patch, by its file."""
-        version = self._counter.look()
-        newest = self._counter.newest()
-        return LogState(read_link(newest).id if newest is not None else None, version)
+        counter = self._counter.look()
+        return LogState(counter.head(), counter.count)
+
+    def kept(self) -> int:
+        """How many patches have gone into its checkpoint; 0 where it has none."""
+        return self._counter.look().kept
 
     def sync(self, log: Log, look: Callable[[int], None]) -> None:
         """Has the program fetch and take what the log has behind the zone; the zone's version is told meanwhile."""
@@ -60,7 +64,12 @@ class Zone:
         log.server.rest()
         with self.alone() as lock:
             words = ("sync", self.folder, address, log.name)
-            self.program.watch(*words, look=lambda: look(self._counter.look()), given=[lock])
+            self.program.watch(*words, look=lambda: look(self._counter.look().count), given=[lock])
+
+    def make_checkpoint(self) -> None:
+        """Has the program write what the zone has as a checkpoint, behind which openings read on."""
+        with self.alone() as lock:
+            self.program.run("checkpoint", self.folder, given=[lock])
 
     def show(self, command: str, *words: str) -> int:
         """Has the program print what the zone has; its status."""
@@ -78,13 +87,12 @@ def hint(zone: Path, failed: errors.ProgramFailed) -> str | None:
         return f"an upgrade of the zone was stopped: `{upgrade_of(zone, ZONE)}` ends it"
     if failed.status != OTHER_CHAIN:
         return None
-    file = file_of(zone, ZONE)
     if "peer behind" in failed.line:
         return (
             "the log was restored from an older copy. The zone has patches that the log lacks: before writers go on,\n"
-            f"`rdfd patches {file} FROM --append LOG` gives them back, FROM being the log's version and one"
+            f"`rdfd patches {zone} FROM --append LOG` gives them back, FROM being the log's version and one"
         )
     return (
         "the log is another one than the zone followed, or went on behind a restoring. To begin anew, follow it with\n"
-        f"another folder; `rdfd patches {file}` prints what this zone has taken"
+        f"another folder; `rdfd patches {zone}` prints what this zone has taken"
     )

@@ -18,8 +18,11 @@ TOP = Path(__file__).resolve().parents[2]
 # Files that version 0.2.0 wrote.
 AGED = TOP / "contrib/old-format"
 PROGRAM = subprocess.run([TOP / "bin/program"], capture_output=True, text=True, check=True).stdout.strip()
+HELP = subprocess.run([PROGRAM, "--help"], capture_output=True, text=True, check=True).stdout
 # Whether it is one that takes runs of patches: those up to version 0.2.0 take none.
-TAKES_RUNS = "\n  append_run " in subprocess.run([PROGRAM, "--help"], capture_output=True, text=True, check=True).stdout
+TAKES_RUNS = "\n  append_run " in HELP
+# Whether it is one that makes checkpoints of zones.
+MAKES_CHECKPOINTS = "\n  checkpoint " in HELP
 SOURCE_ID = "00000000-0000-4000-8000-000000000009"
 
 

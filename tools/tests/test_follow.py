@@ -106,7 +106,7 @@ def test_a_log_that_was_restored(serve: Start, tmp_path: Path) -> None:
     rdfd("follow", zone, "ABC", "--once", address=old.address)
     done = rdfd("follow", zone, "ABC", address=new.address)
     assert done.status == 10 and "peer behind: have 4, peer 2" in done.err
-    assert f"rdfd patches {zone}/rdj-1000 FROM --append LOG" in done.err
+    assert f"rdfd patches {zone} FROM --append LOG" in done.err
     assert rdfd("patches", zone, 3, "--append", "ABC", address=new.address).status == 0
     assert rdfd("follow", zone, "ABC", "--once", address=new.address).status == 0
     other = serve("other")

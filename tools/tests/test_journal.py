@@ -9,7 +9,8 @@ import pytest
 
 from conftest import PROGRAM, TAKES_RUNS, Running, id_of, mark, old_file, patch
 from rdfdelta import BadFile, Damaged, Held, Journal, OldFormat, Pending, Registry, journal
-from rdfdelta.journal import Counter, file_of, pieces_of
+from rdfdelta.counter import Counter
+from rdfdelta.journal import file_of, pieces_of
 
 
 # Where the running number of the second patch stands in the file of a log.
@@ -238,11 +239,11 @@ def test_a_file_that_is_held_is_refused(running: Running) -> None:
 
 def test_a_counter_goes_on(running: Running) -> None:
     counter = Counter(running.folder / "rdj-0001")
-    assert (counter.look(), counter.newest()) == (0, None)
+    assert (counter.look(), counter.head()) == (0, None)
     running.fill("ABC", 2)
-    assert (counter.look(), counter.newest()) == (2, patch(2))
+    assert (counter.look(), counter.head()) == (2, id_of(2))
     running.fill("ABC", 1, begin=3)
-    assert (counter.look(), counter.newest()) == (3, patch(3))
+    assert (counter.look(), counter.head()) == (3, id_of(3))
     assert Counter(running.folder / "none").look() == 0
 
 
@@ -250,22 +251,23 @@ def test_a_counter_counts_the_patches_of_runs(tmp_path: Path) -> None:
     path = tmp_path / "rdj-0001"
     path.write_bytes(b"".join(pieces_of(1, RUNS[:1])))
     counter = Counter(path)
-    assert (counter.look(), counter.newest()) == (2, patch(2))
+    assert (counter.look(), counter.head()) == (2, id_of(2))
     path.write_bytes(b"".join(pieces_of(1, RUNS)))
-    assert (counter.look(), counter.newest()) == (6, patch(6))
+    assert (counter.look(), counter.head()) == (6, id_of(6))
     path.write_bytes(b"".join(pieces_of(1, [*RUNS, b"no run"])))
-    assert (counter.look(), counter.newest()) == (6, patch(6))
+    assert (counter.look(), counter.head()) == (6, id_of(6))
 
 
 def test_a_counter_counts_what_is_whole(tmp_path: Path) -> None:
     path = tmp_path / "rdj-1000"
-    whole = b"".join(pieces_of(1000, [b"a", b"b"]))
+    whole = b"".join(pieces_of(1000, [patch(1), patch(2)]))
+    gate = SECOND - 1
     # The second one has a gate that is shut, a number that isn't its own, or a front alone.
-    for content in (whole[:18] + b"\0" + whole[19:], whole[:22] + b"\3" + whole[23:], whole[:25]):
+    for content in (whole[:gate] + b"\0" + whole[SECOND:], whole[:gate + 4] + b"\3" + whole[gate + 5:], whole[:gate + 7]):
         path.write_bytes(content)
         counter = Counter(path)
-        assert (counter.look(), counter.newest()) == (1, b"a")
+        assert (counter.look(), counter.head()) == (1, id_of(1))
         path.write_bytes(whole)
-        assert (counter.look(), counter.newest()) == (2, b"b")
+        assert (counter.look(), counter.head()) == (2, id_of(2))
     path.write_bytes(old_file(1000, [b"a", b"b"]))
     assert Counter(path).look() == 0

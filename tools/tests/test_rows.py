@@ -36,6 +36,11 @@ TEXTS = [
     b"A <http://e/s> <http://e/p> 1 .",
     b"A <http://e/s> <http://e/p> _:a. .",
     b"A <_:-> <http://e/p> <http://e/o> .",
+    b"A <_:\\u0061> <http://e/p> <\\u005f:b> .",
+    b"A <_:\\u0020> <http://e/p> <http://e/o> .",
+    b"A <_> <http://e/p> <http://e/o> .",
+    b"A <http://e/s> <_:a> <http://e/o> .",
+    b"A <http://e/s> <http://e/p> \"\"^^<_:a> .",
     b"PA \"ex\"@en <http://e/> .",
     b"PA ex \"e\" .",
     b"PA ex \"http://e/\\\\\" .",
@@ -71,7 +76,7 @@ def test_a_fault_has_its_place() -> None:
 
 
 @pytest.mark.parametrize("value", [
-    "<uuid:{}>", "<urn:uuid:{}>", '"{}"', '"urn:uuid:{}"', '"{{{}}}"',
+    "<uuid:{}>", "<urn:uuid:{}>", '"{}"', '"urn:uuid:{}"', '"{{{}}}"', "<uuid:urn:uuid:{}>", '"URN:uuid:{}"',
 ])
 def test_ids_have_their_forms(value: str) -> None:
     number = "00000000-0000-4000-8000-00000000000a"
@@ -81,7 +86,8 @@ def test_ids_have_their_forms(value: str) -> None:
 
 @pytest.mark.parametrize("text", [
     b"TX . TC .", b"TX . H id \"00000000-0000-4000-8000-000000000001\" .", b"H id \"1\" .",
-    b"H id _:a .", HEAD + HEAD, HEAD + b"H prev \"x\" .",
+    b"H id \"00000000-0000-4000-8000-000000000001\"@en .", b"H id <urn:00000000-0000-4000-8000-000000000001> .",
+    b"H id \"uuid:00000000-0000-4000-8000-000000000001\" .", b"H id _:a .", HEAD + HEAD, HEAD + b"H prev \"x\" .",
 ])
 def test_no_link(text: bytes) -> None:
     with pytest.raises(errors.BadPatch):

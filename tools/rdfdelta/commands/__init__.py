@@ -44,6 +44,7 @@ for command in (
     diff.diff,
     tail.tail,
     zones.follow,
+    zones.checkpoint,
     zones.dump,
     zones.prefixes,
     zones.match,

@@ -1,4 +1,4 @@
-"""rdfd follow, dump, prefixes and match: a zone that keeps up with a log, and is read meanwhile."""
+"""rdfd follow, checkpoint, dump, prefixes and match: a zone that keeps up with a log, and is read meanwhile."""
 from __future__ import annotations
 
 import os
@@ -29,11 +29,35 @@ def catch_up(zone: Zone, log: Log, is_first: bool) -> int:
     return zone.state().version
 
 
+class Checkpoints:
+    """Makes a checkpoint of a zone whenever so many patches stand behind the last one; never, where none are named."""
+
+    def __init__(self, zone: Zone, each: int | None) -> None:
+        self.zone = zone
+        self.each = each
+        # The version at which none could be made, since it would be too large.
+        self._refused = 0
+
+    def look(self, version: int) -> bool:
+        """Whether one is made at a version."""
+        if self.each is None or version - max(self.zone.kept(), self._refused) < self.each:
+            return False
+        try:
+            self.zone.make_checkpoint()
+        except errors.ProgramFailed as error:
+            if "checkpoint too large" not in error.line:
+                raise
+            tell(f"{line_of(error)}; trying again in {self.each:,} patches")
+            self._refused = version
+            return False
+        return True
+
+
 def passes(zone: Zone, error: errors.RdfDeltaError) -> bool:
     """Whether an error is one that another try may not meet."""
     match error:
         case errors.ProgramFailed(status=status):
-            is_held = status == DISK_FAILED and locks.is_held(zone.file)
+            is_held = status == DISK_FAILED and any(map(locks.is_held, zone.files))
             return status in TRIED_AGAIN or is_held or "refused: 503" in error.line
         case errors.Refused(status=status):
             return status in PASSING
@@ -70,11 +94,14 @@ def run_command(command: str, log: str, zone: Path, version: int) -> None:
 @click.option("--every", type=click.FloatRange(min=0.1), default=5.0, show_default=True, metavar="SECONDS",
               help="How often to ask for the log's version.")
 @click.option("--once", is_flag=True, help="End when the zone has caught up.")
+@click.option("--checkpoint", type=click.IntRange(min=1), metavar="N", envvar="RDFD_CHECKPOINT",
+              help="Make a checkpoint behind each N patches; or RDFD_CHECKPOINT. Else none is made.")
 @click.option("--run", metavar="COMMAND", envvar="RDFD_RUN",
               help="A command of sh, at the start and whenever the zone grew; or RDFD_RUN. "
                    "It has RDFD_LOG, RDFD_ZONE and RDFD_VERSION.")
 def follow(
-    zone: Path, log: str, server: Server, program: Program, every: float, once: bool, run: str | None
+    zone: Path, log: str, server: Server, program: Program, every: float, once: bool, checkpoint: int | None,
+    run: str | None,
 ) -> None:
     """Keep a zone in step with a log.
 
@@ -84,11 +111,13 @@ def follow(
     """
     copy = Zone(zone, program, tell)
     copy.make()
+    checkpoints = Checkpoints(copy, checkpoint)
     told: int | None = None
     wait = every
     while True:
         try:
             version = catch_up(copy, server.log(log), told is None)
+            is_kept = checkpoints.look(version)
         except errors.RdfDeltaError as error:
             if once or not passes(copy, error):
                 explain(copy, error)
@@ -97,6 +126,8 @@ def follow(
             wait = min(wait * 2, max(every, MOST_WAIT))
         else:
             wait = every
+            if is_kept:
+                say(f"{log}: checkpoint at version {copy.kept()}")
             if version != told:
                 say(f"{log}: version {version}")
                 if run:
@@ -105,6 +136,18 @@ def follow(
             if once:
                 return
         time.sleep(wait)
+
+
+@click.command()
+@click.argument("zone", type=folder_type)
+@program_option
+@click.pass_context
+def checkpoint(context: click.Context, zone: Path, program: Program) -> None:
+    """Make a checkpoint of a zone.
+
+    As `rdfdelta checkpoint`; but it waits while the zone is written.
+    """
+    context.exit(Zone(zone, program, tell).show("checkpoint"))
 
 
 @click.command()
