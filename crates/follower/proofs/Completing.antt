@@ -35,7 +35,6 @@ use Rattle.follower.specs.declared.ends.SyncEnd.{SyncEnd}
 use Rattle.follower.specs.declared.ends.TextRefusal.{TextRefusal}
 use Rattle.follower.specs.declared.ends.TextRefusal.TheVariants.{BadPatch, Diverged, Repeated, Full, TermsFull, DiskFault, OutOfMemory}
 use Rattle.follower.specs.Calls.{calls_of, came, fetches}
-use Rattle.delta_client.specs.Serving.{AllSaid}
 use Rattle.follower.specs.Chains.{AreAnswersOf, Completes, HasTextAt, IsNoShorter, IsSaidOf, IsWellAnswered, MayEndWell}
 use Rattle.follower.specs.Grown.{IsText}
 use Rattle.follower.specs.Syncing.{EndIs, RefusesText, NextEnds, refused, answered, faulty, not_asked, RunEnds, unanswered, compared, stopped, caught_up, end_of_refusal, sync_end}

@@ -1,23 +1,20 @@
 -- What zones have in common, on one file and on two.
-use Rattle.std.proofs.Common.{◌≡◌, ◌⊎◌, inl, inr, ⊎_elim, ℕ, Bool, List, [], ◌∷◌, ◌++◌, Option, Some, None, refl, sym, ◌∙◌, ap, subst, append_assoc, arith}
+use Rattle.std.proofs.Common.{◌≡◌, inl, inr, ⊎_elim, ℕ, Bool, List, [], ◌∷◌, ◌++◌, Option, Some, None, refl, sym, ◌∙◌, ap, subst, append_assoc, arith}
 use Rattle.std.proofs.lemmas.List.{append-nil, map-append}
 use Rattle.delta_base.specs.Outside.{Rose}
 use Rattle.disk_model.specs.declared.disk.Disk.{Ghosts}
-use Rattle.disk_model.specs.Past.{Past, LeavesOnly}
+use Rattle.disk_model.specs.Past.{LeavesOnly}
 use Rattle.disk_model.proofs.Moments.{starts, then_other}
 use Rattle.log_journal.specs.File.{Holds}
-use Rattle.log_journal.specs.Written.{DiskWent}
 use Rattle.log_journal.proofs.Steps.{either}
 use Rattle.patch_meaning.specs.Checked.{CheckedPatch, checked_texts}
 use Rattle.zone_files.specs.Generation.{number_of}
 use Rattle.zone_pairs.specs.Pair.{PairPoint, payloads_at, start_texts, MayBeBeside, MayHoldPayloads}
 use Rattle.zone_state.specs.Brief.{Brief, file_length, with_patch}
 use Rattle.zone_state.specs.Zone.{ZoneView, StandsForZone, zone_number}
-use Rattle.paired_journal.specs.Pair.{DisksWent}
-use Rattle.paired_zone.specs.Zone.{StandsAt}
 use Rattle.paired_zone.proofs.Standing.{file_images}
 use Rattle.paired_zone.proofs.Taking.{none_went}
-use Rattle.follower.specs.Footing.{Footing, one_file, two_files, DisksOf, PairDisks, Point, ZoneStands, further, with_patches, of_pair, HoldsAmid, IsBesideAmid, LeavesBehind, ZoneWent}
+use Rattle.follower.specs.Footing.{Footing, one_file, two_files, DisksOf, Point, ZoneStands, further, with_patches, HoldsAmid, IsBesideAmid, LeavesBehind, ZoneWent}
 
 -- ---- what they stand for
 

@@ -1,5 +1,5 @@
 -- What a crash leaves of a zone that follows a chain begins that chain.
-use Rattle.std.proofs.Common.{◌≡◌, ◌⊎◌, inl, inr, ⊎_elim, ℕ, ◌+◌, Bool, false, List, [], ◌∷◌, ◌++◌, Option, Some, None, refl, sym, ◌∙◌, ap, subst, append_assoc}
+use Rattle.std.proofs.Common.{◌≡◌, ◌⊎◌, inl, inr, ⊎_elim, ℕ, ◌+◌, Bool, false, List, [], ◌∷◌, ◌++◌, Option, Some, None, refl, sym, ◌∙◌, ap, subst}
 use Rattle.std.proofs.lemmas.List.{append-nil}
 use mathlib.Core.List.{IsPrefix}
 use Rattle.disk_model.specs.declared.disk.Disk.{Ghosts}
@@ -13,7 +13,7 @@ use Rattle.log_base.specs.declared.limits.LogLimits.{LogLimits}
 use Rattle.checkpoint_text.specs.Text.{checkpoint}
 use Rattle.zone_files.specs.Generation.{number_of}
 use Rattle.zone_files.proofs.Together.{current_decides, next_decides}
-use Rattle.zone_pairs.specs.Pair.{PairPoint, payloads_at, current_payloads, start_texts, start_brief, Fits, TakeTo, IsStart, StandFor, MayBeBeside, MayBeTaken, ZoneHoldsByRole}
+use Rattle.zone_pairs.specs.Pair.{PairPoint, payloads_at, current_payloads, start_brief, Fits, TakeTo, IsStart, StandFor, MayBeBeside, MayBeTaken, ZoneHoldsByRole}
 use Rattle.zone_pairs.proofs.Together.{checkpoint_begins, payloads_show}
 use Rattle.zone_state.specs.Brief.{Brief, brief_of, with_patch}
 use Rattle.zone_state.specs.Zone.{ZoneView, zone_number}
@@ -23,7 +23,7 @@ use Rattle.paired_zone.specs.Zone.{StandsAt}
 use Rattle.follower.specs.declared.ends.SyncEnd.{SyncEnd}
 use Rattle.follower.specs.Chains.{IsToldTexts}
 use Rattle.follower.specs.Footing.{Footing, one_file, two_files, DisksOf, PairDisks, Tells, of_pair, with_patches, HoldsAmid, IsBesideAmid, HoldsFront, PairHoldsFront, LeavesFronts}
-use Rattle.follower.specs.Grown.{IsNextForZone, WasTried, untried, was_next}
+use Rattle.follower.specs.Grown.{WasTried, untried, was_next}
 use Rattle.follower.proofs.Footings.{texts_both, with_both, further_payloads}
 use Rattle.follower.proofs.Fronts.{front_begins, doubt_begins, kept_more, checked_both, checked_front}
 use Rattle.follower.proofs.TwoFiles.{take_both, take_behind}

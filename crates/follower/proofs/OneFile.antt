@@ -1,5 +1,5 @@
 -- A zone on one file takes its next patch.
-use Rattle.std.proofs.Common.{◌≡◌, ◌≢◌, ◌⊎◌, inl, inr, ⊎_elim, ℕ, List, [], ◌∷◌, ◌++◌, Option, Some, None, refl, sym, ◌∙◌, ap, subst}
+use Rattle.std.proofs.Common.{◌≡◌, ◌≢◌, inl, inr, ⊎_elim, ℕ, List, [], ◌∷◌, ◌++◌, Option, Some, None, sym, subst}
 use Rattle.std.proofs.lemmas.List.{append-nil}
 use Rattle.disk_model.specs.declared.disk.Disk.{Ghosts}
 use Rattle.disk_model.proofs.Moments.{weaker}
@@ -12,9 +12,9 @@ use Rattle.zone_state.specs.declared.answer.TakeAnswer.TheVariants as take
 use Rattle.zone_state.specs.Stay.{decided, RefusesPatch, WritesNext}
 use Rattle.zone_state.specs.Takes.{TakesPatch}
 use Rattle.zone_state.specs.Taking.{taken_then}
-use Rattle.zone_state.specs.Zone.{ZoneView, StandsForZone, zone_number, text_in}
+use Rattle.zone_state.specs.Zone.{ZoneView, zone_number, text_in}
 use Rattle.zone_state.proofs.Took.{any_moment}
-use Rattle.follower.specs.Footing.{one_file, ZoneStands, HoldsAmid, LeavesBehind}
+use Rattle.follower.specs.Footing.{one_file, ZoneStands, HoldsAmid}
 use Rattle.follower.specs.Taking.{TakesNext}
 use Rattle.follower.proofs.Answered.{IsDecision, made}
 use Rattle.follower.proofs.Footings.{amid_before, amid_doubt, amid_next}

@@ -1,9 +1,7 @@
 -- A zone that catches up over connections that answer as a server does whose log its patches begin.
-use Rattle.std.proofs.Common.{◌≡◌, ◌≢◌, ℕ, suc, ◌+◌, ◌<◌, ◌≤◌, List, [], ◌∷◌, ◌++◌, length, map, Option, None, Some, Ok, Err, refl, sym, ◌∙◌, ap, subst, append_assoc, arith}
-use Rattle.std.proofs.lemmas.List.{append-nil, length-append, length-map}
-use mathlib.Core.List.{IsPrefix}
+use Rattle.std.proofs.Common.{◌≡◌, ℕ, suc, ◌+◌, ◌<◌, ◌≤◌, List, [], ◌∷◌, ◌++◌, length, map, Option, None, Ok, Err, refl, sym, ◌∙◌, ap, subst, arith}
+use Rattle.std.proofs.lemmas.List.{length-append, length-map}
 use Rattle.delta_base.specs.declared.id.Id.{Id}
-use Rattle.chain_core.specs.Ids.{last_of}
 use Rattle.chain_core.specs.Links.{IsChain}
 use Rattle.chain_core.specs.Patches.{links_of}
 use Rattle.patch_log.specs.Log.{bare}
@@ -26,7 +24,7 @@ use Rattle.catch_up.specs.Runs.{texts_said}
 use Rattle.follower.specs.declared.ends.SyncEnd.{SyncEnd}
 use Rattle.follower.specs.declared.ends.TextRefusal.{TextRefusal}
 use Rattle.follower.specs.Calls.{calls_of, came, fetches}
-use Rattle.follower.specs.Chains.{HasTextAt, IsAnswerBehind, IsAnswerOf, IsNoShorter, IsSaidOf, MayEndWell, ServesRest, TellsNoFewer}
+use Rattle.follower.specs.Chains.{IsAnswerBehind, IsNoShorter, IsSaidOf, MayEndWell, ServesRest}
 use Rattle.follower.specs.Syncing.{NextEnds, refused, answered, faulty, not_asked, RunEnds, unanswered, compared, stopped, caught_up, EndIs}
 use Rattle.follower.proofs.Completing.{completes}
 

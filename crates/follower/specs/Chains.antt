@@ -1,5 +1,5 @@
 -- What a peer says that has a log of this chain, and how catching up with it ends.
-use Rattle.std.specs.Prelude.{◌≡◌, ℕ, ◌+◌, ◌≤◌, List, [], ◌∷◌, ◌++◌, Option, None, Ok}
+use Rattle.std.specs.Prelude.{◌≡◌, ℕ, ◌+◌, ◌≤◌, List, ◌∷◌, ◌++◌, Option, None, Ok}
 use Rattle.std.specs.Prelude.{length, map}
 use mathlib.Core.List.{IsPrefix}
 use Rattle.log_base.specs.OneMore.{with_one_more}

@@ -1,4 +1,4 @@
-use Rattle.std.proofs.Common.{rules, ◌≡◌, ◌≢◌, [], Result, sym, subst}
+use Rattle.std.proofs.Common.{◌≡◌, ◌≢◌, [], Result, sym, subst}
 use Rattle.std.specs.Prelude.{OnOk, IfErr, IsErrOf}
 use Rattle.patch_meaning.specs.Checked.{CheckedPatch}
 use Rattle.zone_state.specs.Zone.{ZoneView}

@@ -1,4 +1,4 @@
-use Rattle.std.proofs.Common.{◌≡◌, Result, Ok, Err, refl, ap}
+use Rattle.std.proofs.Common.{◌≡◌, Ok, Err, refl, ap}
 use Rattle.std.specs.Prelude.{IsErrOf}
 use Rattle.zone_state.specs.Zone.{ZoneView}
 use Rattle.follower.specs.declared.ends.TextRefusal.{TextRefusal}
@@ -24,8 +24,7 @@ pub returns-in-Err-clause-takes : goal.returns-in-Err-clause-takes
 returns-in-Err-clause-takes g c =
     let on = g.Z.Follower.footing in
     let old : ZoneView (DisksOf on) = g.Z.Follower.zone c.args.zone.now in
-    let new : ZoneView (DisksOf on) = g.Z.Follower.zone c.take_text.new.zone in
-    (
+    let new : ZoneView (DisksOf on) = g.Z.Follower.zone c.take_text.new.zone in (
       c.in-Err.ensures.err,
       c.in-Err.ensures.stayed,
       c.take_text.ensures.limits,
