@@ -1,0 +1,5 @@
+mod Walks
+mod Standing
+mod Telling
+mod Taking
+pub mod Moments

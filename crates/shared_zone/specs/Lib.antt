@@ -1,0 +1,4 @@
+pub mod History
+pub mod Legal
+pub mod Stays
+pub mod Moments
