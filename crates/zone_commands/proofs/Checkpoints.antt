@@ -23,7 +23,7 @@ use Rattle.paired_zone.specs.declared.answer.CheckEnd.{CheckEnd}
 use Rattle.paired_zone.specs.declared.answer.CheckEnd.TheVariants.{Done, TooLarge, DiskFault}
 use Rattle.paired_zone.specs.declared.fault.PairFault.{PairFault}
 use Rattle.paired_zone.proofs.Standing.{file_images}
-use Rattle.zone_commands.specs.Checkpoints.{Checkpointed, HoldCheckpoint}
+use Rattle.zone_commands.specs.Checkpoints.{Checkpointed, HasNoRoom, HoldCheckpoint}
 use Rattle.zone_commands.specs.Files.{AreZoneFiles}
 use Rattle.zone_commands.proofs.Held.{settled_files}
 use Rattle.zone_commands.proofs.Opened.{both_reopened, opened_within}
@@ -158,3 +158,23 @@ module _ {D : Type 0} (disks : Ghosts D) where
     both_went failed went first' second' is_first is_second =
         subst (λ d. DisksWent disks failed first d second second') (sym is_first)
         (subst (λ d. DisksWent disks failed first (first_in new) second d) (sym is_second) (went_by_role old.second failed _ opened.reopened opened.other_reopened went))
+
+-- files of a shelf are what their disks read
+module _ (tells shelf_tells : Type 0) (tell : shelf_tells → tells) (first second first' second' a b a' b' : List ℕ) (was_first : shelf_tells → first ≡ a) (was_second : shelf_tells → second ≡ b) (is_first : shelf_tells → first' ≡ a') (is_second : shelf_tells → second' ≡ b') where
+  before : (P : List ℕ → List ℕ → Type 0) → shelf_tells → P first second → P a b
+  before P told is = subst (λ (f : List ℕ). P f b) (was_first told) (subst (λ (f : List ℕ). P first f) (was_second told) is)
+
+  behind : (P : List ℕ → List ℕ → Type 0) → shelf_tells → P first' second' → P a' b'
+  behind P told is = subst (λ (f : List ℕ). P f b') (is_first told) (subst (λ (f : List ℕ). P first' f) (is_second told) is)
+
+  pub of_shelf : (result : Result CheckEnd PairFault) → IfOk result (Checkpointed tells first second first' second') → IfOk result (Checkpointed shelf_tells a b a' b')
+  of_shelf (Ok end) came = record {
+    brief = came.brief;
+    was = λ told. before (λ f s. AreZoneFiles f s came.brief) told (came.was (tell told));
+    is = λ told. behind (λ f s. AreZoneFiles f s came.brief) told (came.is (tell told));
+    version = came.version;
+    made = λ version is told. before (λ f s. HoldCheckpoint f s a' b' came.brief) told (behind (λ f s. HoldCheckpoint first second f s came.brief) told (came.made version is (tell told)));
+    too_large = λ shown limit is told. before (λ f s. HasNoRoom f s came.brief shown limit) told (came.too_large shown limit is (tell told));
+    untouched = λ shown limit is told. before (λ f s. (a' ≡ f) × (b' ≡ s)) told (behind (λ f s. (f ≡ first) × (s ≡ second)) told (came.untouched shown limit is (tell told)));
+  }
+  of_shelf (Err fault) came = tt

@@ -1,5 +1,5 @@
 -- Disks of the two files of a zone, taken and put back.
-use Rattle.std.proofs.Common.{◌≡◌, inl, inr, ⊎_elim, ℕ, ◌+◌, ◌<◌, ◌≤◌, List, [], Option, Some, None, Result, Ok, Err, IfOk, IfErr, refl, sym, ap, subst, ◌∙◌, arith}
+use Rattle.std.proofs.Common.{◌≡◌, ◌⊎◌, inl, inr, ⊎_elim, ℕ, false, ◌+◌, ◌<◌, ◌≤◌, List, [], Option, Some, None, Result, Ok, Err, IfOk, IfErr, refl, sym, ap, subst, ◌∙◌, arith}
 use Rattle.std.specs.Prelude.{unwrap_or}
 use Rattle.delta_base.specs.Outside.{Rose}
 use Rattle.disk_model.specs.declared.disk.Disk.{Ghosts}
@@ -7,7 +7,14 @@ use Rattle.disk_model.specs.Past.{Past, began, reads}
 use Rattle.disk_model.specs.Shelf.{SameOthers}
 use Rattle.slot_files.specs.Files.{Files, IsKept}
 use Rattle.slot_files.proofs.Steps.{other_dir, other_number}
+use Rattle.log_base.specs.declared.limits.TheConstants.{LOG_LIMITS}
+use Rattle.log_journal.specs.declared.at_front.FrontFault.TheVariants as front
+use Rattle.zone_beside.specs.declared.fault.FindFault.TheVariants.{AtFront}
 use Rattle.paired_journal.specs.Pair.{DisksWent}
+use Rattle.paired_zone.specs.Fault.{HasPairFault, none_current}
+use Rattle.paired_zone.specs.declared.fault.PairFault.{PairFault}
+use Rattle.paired_zone.specs.declared.fault.PairFault.TheVariants.{Failed, OutOfMemory}
+use Rattle.zone_commands.specs.Files.{HasFilesFault}
 use Rattle.paired_zone.specs.Opening.{RefusedDisk}
 use Rattle.zone_commands.specs.Disks.{AreFreshDisks, AreZoneDisks, KeepsZoneFiles, SameButZone, ZoneFilesHave, first_bytes, second_bytes}
 
@@ -121,7 +128,33 @@ module _ {D : Type 0} (disks : Ghosts D) (dir : List ℕ) (files : Files) (first
   still_theirs first' second' one two = record { first_mark = one ∙ fresh.are_theirs.first_mark; second_mark = two ∙ fresh.are_theirs.second_mark }
 
   -- and so are those that come back from a call that may have failed or not been made
-  pub theirs_behind : {T E : Type 0} (Failed : T → Type 0) (First Second : E → Type 0) (first' second' : D) (result : Result T E) → IfOk result (λ end. DisksWent disks (Failed end) first first' second second')
+  pub theirs_behind : {T E : Type 0} (IsFault : T → Type 0) (First Second : E → Type 0) (first' second' : D) (result : Result T E) → IfOk result (λ end. DisksWent disks (IsFault end) first first' second second')
       → IfErr result (λ fault. RefusedDisk disks (First fault) first first') → IfErr result (λ fault. RefusedDisk disks (Second fault) second second') → AreZoneDisks disks dir first' second'
-  theirs_behind Failed First Second first' second' (Ok end) went one two = still_theirs first' second' went.mark.0 went.mark.1
-  theirs_behind Failed First Second first' second' (Err fault) went one two = still_theirs first' second' one.mark two.mark
+  theirs_behind IsFault First Second first' second' (Ok end) went one two = still_theirs first' second' went.mark.0 went.mark.1
+  theirs_behind IsFault First Second first' second' (Err fault) went one two = still_theirs first' second' one.mark two.mark
+
+-- ---- want of memory
+
+pub no_memory : (first second : List ℕ) → HasPairFault first second LOG_LIMITS OutOfMemory
+no_memory first second = none_current (AtFront false front.OutOfMemory) refl tt
+
+-- ---- what is told of a shelf
+
+-- why the disks aren't taken
+pub untaken_fault : (first second : List ℕ) (fault : PairFault) → (fault ≡ OutOfMemory) ⊎ ((file : ℕ) × (fault ≡ Failed file)) → HasFilesFault first second fault
+untaken_fault first second fault (inl same) = subst (HasFilesFault first second) (sym same) (no_memory first second)
+untaken_fault first second fault (inr (file, same)) = subst (HasFilesFault first second) (sym same) tt
+
+-- the files have what the disks read
+module _ (dir first second : List ℕ) (old new : Files) (back : ZoneFilesHave dir first second old new) where
+  pub first_back : first ≡ first_bytes new dir
+  first_back = sym (ap (λ (f : Option (List ℕ)). unwrap_or f []) back.first_has)
+
+  pub second_back : second ≡ second_bytes new dir
+  second_back = sym (ap (λ (f : Option (List ℕ)). unwrap_or f []) back.second_has)
+
+-- where no disk failed no fault is counted
+pub well_behind : {D T E : Type 0} (disks : Ghosts D) (IsFault : T → Type 0) (first second first' second' : D) (old mid new : ℕ) (result : Result T E) → IfOk result (λ end. DisksWent disks (IsFault end) first first' second second')
+    → (disks.faults first ≡ 0) × (disks.faults second ≡ 0) → (disks.faults first' ≡ 0 → disks.faults second' ≡ 0 → new ≡ mid) → mid ≡ old → IfOk result (λ end. (IsFault end → ⊥) → new ≡ old)
+well_behind disks IsFault first second first' second' old mid new (Ok end) went fresh stays same = λ not. stays ((went.well not).0 ∙ fresh.0) ((went.well not).1 ∙ fresh.1) ∙ same
+well_behind disks IsFault first second first' second' old mid new (Err fault) went fresh stays same = tt

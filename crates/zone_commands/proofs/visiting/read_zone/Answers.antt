@@ -1,6 +1,6 @@
 use Rattle.std.proofs.Common.{◌∙◌}
 use Rattle.disk_model.specs.Past.{reads}
-use Rattle.zone_commands.proofs.Taken.{files_kept, first_read, second_read, still_theirs}
+use Rattle.zone_commands.proofs.Taken.{files_kept, first_read, second_read, still_theirs, untaken_fault}
 use Rattle.zone_commands.proofs.visiting.read_zone.Goals as goal
 
 pub returns-in-Ok-clause-kept : goal.returns-in-Ok-clause-kept
@@ -18,3 +18,6 @@ returns-in-Ok-clause-kept g c tell =
     (c.put_back_disks.ensures.kept tell dir (still_theirs g.H.D.Disk dir old c.in-Ok.first c.in-Ok.second fresh first second one.mark two.mark))
     ((one.kept told).reads_same ∙ first_read g.H.D.Disk dir old c.in-Ok.first c.in-Ok.second fresh)
     ((two.kept told).reads_same ∙ second_read g.H.D.Disk dir old c.in-Ok.first c.in-Ok.second fresh)
+
+pub returns-in-Err-clause-fault : goal.returns-in-Err-clause-fault
+returns-in-Err-clause-fault g c tell = untaken_fault _ _ c.in-Err.fault c.in-Err.ensures.fault
