@@ -17,12 +17,11 @@ returns-in-Ok-clause-ok g c =
     let e = c.checkpoint_files-first.ensures in
     let first = c.checkpoint_files-first.result.0 in
     let second = c.checkpoint_files-first.result.1 in
-    let read = λ d. reads (g.H.D.Disk.past d) in
-    of_shelf g.H.D.Disk.tells g.H.Shelf.tells (λ tell. g.met.H.Shelf.disks_tell tell) (read c.in-Ok.first) (read c.in-Ok.second) (read first) (read second) (first_bytes old dir) (second_bytes old dir) (first_bytes new dir) (second_bytes new dir)
+    of_shelf g.H.D.Disk.tells g.H.Shelf.tells (λ tell. g.met.H.Shelf.disks_tell tell) (reads (g.H.D.Disk.past c.in-Ok.first)) (reads (g.H.D.Disk.past c.in-Ok.second)) (reads (g.H.D.Disk.past first)) (reads (g.H.D.Disk.past second)) (first_bytes old dir) (second_bytes old dir) (first_bytes new dir) (second_bytes new dir)
     (λ tell. first_read g.H.D.Disk dir old c.in-Ok.first c.in-Ok.second (c.in-Ok.ensures.taken tell))
     (λ tell. second_read g.H.D.Disk dir old c.in-Ok.first c.in-Ok.second (c.in-Ok.ensures.taken tell))
-    (λ tell. first_back dir (read first) (read second) mid new (c.put_back_disks.ensures.kept tell dir (theirs_behind g.H.D.Disk dir old c.in-Ok.first c.in-Ok.second (c.in-Ok.ensures.taken tell) (λ end. end ≡ DiskFault) (λ fault. fault ≡ Failed (number_of false)) (λ fault. fault ≡ Failed (number_of true)) first second c.checkpoint_files-first.result.2 e.went e.first e.second)))
-    (λ tell. second_back dir (read first) (read second) mid new (c.put_back_disks.ensures.kept tell dir (theirs_behind g.H.D.Disk dir old c.in-Ok.first c.in-Ok.second (c.in-Ok.ensures.taken tell) (λ end. end ≡ DiskFault) (λ fault. fault ≡ Failed (number_of false)) (λ fault. fault ≡ Failed (number_of true)) first second c.checkpoint_files-first.result.2 e.went e.first e.second)))
+    (λ tell. first_back dir (reads (g.H.D.Disk.past first)) (reads (g.H.D.Disk.past second)) mid new (c.put_back_disks.ensures.kept tell dir (theirs_behind g.H.D.Disk dir old c.in-Ok.first c.in-Ok.second (c.in-Ok.ensures.taken tell) (λ end. end ≡ DiskFault) (λ fault. fault ≡ Failed (number_of false)) (λ fault. fault ≡ Failed (number_of true)) first second c.checkpoint_files-first.result.2 e.went e.first e.second)))
+    (λ tell. second_back dir (reads (g.H.D.Disk.past first)) (reads (g.H.D.Disk.past second)) mid new (c.put_back_disks.ensures.kept tell dir (theirs_behind g.H.D.Disk dir old c.in-Ok.first c.in-Ok.second (c.in-Ok.ensures.taken tell) (λ end. end ≡ DiskFault) (λ fault. fault ≡ Failed (number_of false)) (λ fault. fault ≡ Failed (number_of true)) first second c.checkpoint_files-first.result.2 e.went e.first e.second)))
     c.checkpoint_files-first.result.2 e.ok
 
 pub returns-in-Ok-clause-others : goal.returns-in-Ok-clause-others

@@ -18,12 +18,11 @@ returns-in-Ok-clause-ok g c =
     let e = c.follow_files-first.ensures in
     let first = c.follow_files-first.result.0 in
     let second = c.follow_files-first.result.1 in
-    let read = λ d. reads (g.H.D.Disk.past d) in
-    of_shelf g.N.L.Link.left g.N.L.Link.sent g.H.D.Disk.tells g.H.Shelf.tells g.N.Dial.tells (λ tell. g.met.H.Shelf.disks_tell tell) c.args.address.now c.args.name.now (dial_view g.N.Dial c.args.net.now) (dial_view g.N.Dial c.follow_files-first.new.net) (read c.in-Ok.first) (read c.in-Ok.second) (read first) (read second) (first_bytes old dir) (second_bytes old dir) (first_bytes new dir) (second_bytes new dir) c.follow_files-first.result.2
+    of_shelf g.N.L.Link.left g.N.L.Link.sent g.H.D.Disk.tells g.H.Shelf.tells g.N.Dial.tells (λ tell. g.met.H.Shelf.disks_tell tell) c.args.address.now c.args.name.now (dial_view g.N.Dial c.args.net.now) (dial_view g.N.Dial c.follow_files-first.new.net) (reads (g.H.D.Disk.past c.in-Ok.first)) (reads (g.H.D.Disk.past c.in-Ok.second)) (reads (g.H.D.Disk.past first)) (reads (g.H.D.Disk.past second)) (first_bytes old dir) (second_bytes old dir) (first_bytes new dir) (second_bytes new dir) c.follow_files-first.result.2
     (λ tell. first_read g.H.D.Disk dir old c.in-Ok.first c.in-Ok.second (c.in-Ok.ensures.taken tell))
     (λ tell. second_read g.H.D.Disk dir old c.in-Ok.first c.in-Ok.second (c.in-Ok.ensures.taken tell))
-    (λ tell. first_back dir (read first) (read second) mid new (c.put_back_disks.ensures.kept tell dir (theirs_behind g.H.D.Disk dir old c.in-Ok.first c.in-Ok.second (c.in-Ok.ensures.taken tell) (λ end. end ≡ DiskFault) (λ fault. fault ≡ Failed (number_of false)) (λ fault. fault ≡ Failed (number_of true)) first second c.follow_files-first.result.2 e.went e.first e.second)))
-    (λ tell. second_back dir (read first) (read second) mid new (c.put_back_disks.ensures.kept tell dir (theirs_behind g.H.D.Disk dir old c.in-Ok.first c.in-Ok.second (c.in-Ok.ensures.taken tell) (λ end. end ≡ DiskFault) (λ fault. fault ≡ Failed (number_of false)) (λ fault. fault ≡ Failed (number_of true)) first second c.follow_files-first.result.2 e.went e.first e.second)))
+    (λ tell. first_back dir (reads (g.H.D.Disk.past first)) (reads (g.H.D.Disk.past second)) mid new (c.put_back_disks.ensures.kept tell dir (theirs_behind g.H.D.Disk dir old c.in-Ok.first c.in-Ok.second (c.in-Ok.ensures.taken tell) (λ end. end ≡ DiskFault) (λ fault. fault ≡ Failed (number_of false)) (λ fault. fault ≡ Failed (number_of true)) first second c.follow_files-first.result.2 e.went e.first e.second)))
+    (λ tell. second_back dir (reads (g.H.D.Disk.past first)) (reads (g.H.D.Disk.past second)) mid new (c.put_back_disks.ensures.kept tell dir (theirs_behind g.H.D.Disk dir old c.in-Ok.first c.in-Ok.second (c.in-Ok.ensures.taken tell) (λ end. end ≡ DiskFault) (λ fault. fault ≡ Failed (number_of false)) (λ fault. fault ≡ Failed (number_of true)) first second c.follow_files-first.result.2 e.went e.first e.second)))
     e.ok
 
 pub returns-in-Ok-clause-well : goal.returns-in-Ok-clause-well
