@@ -1,5 +1,5 @@
 -- Where the patches of a run's chain come from.
-use Rattle.std.proofs.Common.{◌≡◌, ◌⊎◌, inl, inr, ⊎_elim, ℕ, zero, suc, ◌+◌, ◌<◌, ◌≤◌, Bool, true, false, cond, eq-eqb, eqb, List, [], ◌∷◌, ◌++◌, length, map, Option, Some, None, refl, sym, ◌∙◌, ap, subst, arith}
+use Rattle.std.proofs.Common.{◌≡◌, ◌⊎◌, inl, inr, ⊎_elim, ℕ, zero, suc, ◌+◌, ◌<◌, ◌≤◌, List, [], ◌∷◌, ◌++◌, length, Option, Some, None, refl, sym, ◌∙◌, ap, subst, arith}
 use Rattle.std.specs.Prelude.{slice_get}
 use Rattle.std.proofs.lemmas.List.{map-append}
 use Rattle.disk_model.specs.declared.disk.Disk.{Ghosts}
@@ -9,7 +9,7 @@ use Rattle.chain_core.specs.Patches.{patch_at}
 use Rattle.chain_core.specs.Replies.{LogCall}
 use Rattle.patch_log.specs.State.{chain_of}
 use Rattle.turn_cell.specs.declared.view.Known.{Known}
-use Rattle.turn_cell.specs.Turns.{IsIn, AllOf, places_by, places_from}
+use Rattle.turn_cell.specs.Turns.{IsIn, AllOf, places_by}
 use Rattle.turn_cell.specs.Sights.{ComesFrom}
 use Rattle.turn_cell.specs.Sharing.{HasSeen}
 use Rattle.turn_cell.specs.Knowing.{pass_number, seen_of, mine_of, failed_of}

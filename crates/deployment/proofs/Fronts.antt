@@ -1,5 +1,5 @@
 -- Histories and their patches.
-use Rattle.std.proofs.Common.{◌≡◌, ◌⊎◌, inl, inr, ⊎_elim, ℕ, zero, suc, ◌<◌, subst, List, [], ◌∷◌, ◌++◌, length, map, refl, sym, ◌∙◌, ap, arith}
+use Rattle.std.proofs.Common.{◌≡◌, ◌⊎◌, inl, inr, ℕ, zero, suc, ◌<◌, List, [], ◌∷◌, ◌++◌, length, refl, sym, ◌∙◌, ap, arith}
 use Rattle.std.proofs.lemmas.List.{map-append}
 use mathlib.Core.List.{IsPrefix}
 use Rattle.chain_core.specs.declared.chain.Patch.{Patch}
@@ -8,7 +8,6 @@ use Rattle.chain_core.specs.Patches.{patches_of}
 use Rattle.chain_core.specs.Runs.{AreWhole, GoesOn, before_runs, runs_of, patches_in}
 use Rattle.chain_core.proofs.Runs.{patches_in-runs}
 use Rattle.turn_cell.specs.declared.view.Known.{Known}
-use Rattle.turn_cell.specs.Turns.{IsIn, AllOf}
 use Rattle.shared_log.specs.declared.value.Placed.{Placed}
 use Rattle.shared_log.specs.History.{patches_known, history_of, entries_known, KnowsWhole}
 use Rattle.shared_log.proofs.Turns.{known_entries}

@@ -1,5 +1,5 @@
 -- From what a checkpoint comes to on a zone's disks to what it comes to for its files.
-use Rattle.std.proofs.Common.{◌≡◌, ◌⊎◌, inl, inr, ⊎_elim, ℕ, ◌+◌, ◌≤◌, Bool, true, false, List, [], ◌∷◌, Option, None, Some, Result, Ok, Err, IfOk, refl, sym, ap, subst, ◌∙◌, arith}
+use Rattle.std.proofs.Common.{◌≡◌, inl, inr, ⊎_elim, ℕ, ◌+◌, Bool, true, false, List, [], ◌∷◌, Option, None, Result, Ok, Err, IfOk, refl, sym, ap, subst, ◌∙◌, arith}
 use Rattle.std.specs.Prelude.{not, if◌then◌else◌}
 use Rattle.delta_base.specs.Outside.{Rose}
 use Rattle.log_base.specs.declared.limits.TheConstants.{LOG_LIMITS}
@@ -9,7 +9,6 @@ use Rattle.disk_model.proofs.Moments.{leaves}
 use Rattle.log_journal.specs.File.{Holds}
 use Rattle.log_journal.specs.Written.{Reopened}
 use Rattle.patch_meaning.specs.Checked.{CheckedPatch}
-use Rattle.checkpoint_text.specs.Brief.{Brief}
 use Rattle.checkpoint_text.specs.Text.{checkpoint}
 use Rattle.zone_files.specs.Generation.{number_of}
 use Rattle.zone_files.specs.Pair.{IsBehind}
@@ -20,7 +19,7 @@ use Rattle.paired_zone.specs.Checkpointing.{MakesCheckpoint, disk_in}
 use Rattle.paired_zone.specs.Opening.{IsOpened}
 use Rattle.paired_zone.specs.Zone.{PairedView, first_in, second_in}
 use Rattle.paired_zone.specs.declared.answer.CheckEnd.{CheckEnd}
-use Rattle.paired_zone.specs.declared.answer.CheckEnd.TheVariants.{Done, TooLarge, DiskFault}
+use Rattle.paired_zone.specs.declared.answer.CheckEnd.TheVariants.{Done}
 use Rattle.paired_zone.specs.declared.fault.PairFault.{PairFault}
 use Rattle.paired_zone.proofs.Standing.{file_images}
 use Rattle.zone_commands.specs.Checkpoints.{Checkpointed, HasNoRoom, HoldCheckpoint}

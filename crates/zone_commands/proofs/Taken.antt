@@ -1,9 +1,9 @@
 -- Disks of the two files of a zone, taken and put back.
-use Rattle.std.proofs.Common.{◌≡◌, ◌⊎◌, inl, inr, ⊎_elim, ℕ, false, ◌+◌, ◌<◌, ◌≤◌, List, [], Option, Some, None, Result, Ok, Err, IfOk, IfErr, refl, sym, ap, subst, ◌∙◌, arith}
+use Rattle.std.proofs.Common.{◌≡◌, ◌⊎◌, inl, inr, ⊎_elim, ℕ, false, ◌<◌, ◌≤◌, List, [], Option, Some, None, Result, Ok, Err, IfOk, IfErr, refl, sym, ap, subst, ◌∙◌, arith}
 use Rattle.std.specs.Prelude.{unwrap_or}
 use Rattle.delta_base.specs.Outside.{Rose}
 use Rattle.disk_model.specs.declared.disk.Disk.{Ghosts}
-use Rattle.disk_model.specs.Past.{Past, began, reads}
+use Rattle.disk_model.specs.Past.{reads}
 use Rattle.disk_model.specs.Shelf.{SameOthers}
 use Rattle.slot_files.specs.Files.{Files, IsKept}
 use Rattle.slot_files.proofs.Steps.{other_dir, other_number}

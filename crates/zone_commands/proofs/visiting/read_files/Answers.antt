@@ -1,7 +1,6 @@
 use Rattle.std.proofs.Common.{◌∙◌, ap}
 use Rattle.disk_model.specs.Past.{reads}
-use Rattle.paired_zone.specs.Zone.{PairedView, first_in, second_in}
-use Rattle.zone_commands.specs.Readings.{lines_read}
+use Rattle.paired_zone.specs.Zone.{first_in, second_in}
 use Rattle.zone_commands.proofs.Opened.{first_closed, opened_within, second_closed}
 use Rattle.zone_commands.proofs.Taken.{no_memory}
 use Rattle.zone_commands.proofs.visiting.read_files.Goals as goal
