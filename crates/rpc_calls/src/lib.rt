@@ -18,6 +18,9 @@ mod surface;
 mod values;
 
 pub use call::{Call, CallFault};
+pub use media::has_refused_media;
+pub use members::text_of;
+pub use path::{cut_path, read_segment};
 pub use print::print_call;
 pub use read::{read_call, read_call_on};
 pub use surface::Surface;
