@@ -283,7 +283,7 @@ module _ {D : Type 0} (number : ℕ) (limits : LogLimits) (image : List ℕ) (ru
 
   module _ (on : Footing) (old new : ZoneView (DisksOf on)) (taken : List CheckedPatch) (so : FollowsChain on whole old taken) (name : List ℕ) (took : List CheckedPatch) (said : List WasSaid) (end : SyncEnd) (act : CatchesUp on runs old new name took said end) where
     count : length old.brief.ids ≡ length taken
-    count = ap (λ (b : Brief). length b.ids) so.replayed ∙ length-map id_taken taken
+    count = ap (λ (b : Brief). length b.ids) so.replayed ∙ length-map taken id_taken
 
     is_told : IsToldTexts on whole old new taken took name said end
     is_told = record {
