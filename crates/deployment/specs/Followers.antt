@@ -78,8 +78,8 @@ OpensOn (two_files disks) images zone =
     ZoneHolds images.0 images.1 zone.brief
     × ((point : PairPoint) × ZoneStands (two_files disks) zone point) × (zone.doubt ≡ None)
 
--- A crash may leave them at a moment from the one zone to what it is later. Of two files the moments
--- may be any two.
+-- A crash may leave them at a moment from the one zone to what it is later. Of two files the
+-- moments may be any two.
 abbrev pub MayLeaveImages : (on : Footing) → ZoneView (DisksOf on) → ZoneView (DisksOf on)
     → Images on → Type 0
 MayLeaveImages (one_file disks) old new image =
@@ -152,8 +152,8 @@ module _ (on : Footing) {D : Type 0} (runs : List (ServerRun D)) where
 -- ---- the promise
 
 module _ (on : Footing) (chain : List Patch) where
-  -- The patches that the zone took are the first ones of the chain, as many as its version says, and
-  -- its dataset is their replay.
+  -- The patches that the zone took are the first ones of the chain, as many as its version says,
+  -- and its dataset is their replay.
   pub record ReplaysFront (zone : ZoneView (DisksOf on)) : Type 0 where
     pub taken : List CheckedPatch
     pub front : IsFrontOf (map bare taken) chain

@@ -113,8 +113,8 @@ module _ {D : Type 0} (disks : Ghosts D) where
     pub ended : IsEnded disks run.hall (stopped_in run) left
     pub leaves : AllZip (λ disk image. MayLeave (disks.past disk) image) left run.images
 
-  -- The hall was killed. By the rule of the registry's cell at that moment its passes had such parts
-  -- of the registry, which lay in its turn or was with the change that was under way.
+  -- The hall was killed. By the rule of the registry's cell at that moment its passes had such
+  -- parts of the registry, which lay in its turn or was with the change that was under way.
   pub record RegistryWasKilled (run : HallRun D) : Type 0 where
     pub registry_run : RegistryRun D
     pub of_run : IsRunOfRegistry run registry_run

@@ -106,8 +106,8 @@ module _ {D : Type 0} (disks : Ghosts D) where
 
 -- ---- names
 
--- The steps of a request: a log is asked only behind a look-up of a name, and it is that of the slot
--- of the source that was found.
+-- The steps of a request: a log is asked only behind a look-up of a name, and it is that of the
+-- slot of the source that was found.
 abbrev pub AskByName : List Step → Type 0
 AskByName [] = Unit {0}
 AskByName (of_registry made ∷ []) = Unit {0}
