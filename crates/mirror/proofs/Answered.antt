@@ -1,5 +1,5 @@
 -- What an answer to the text of a version tells of the pass.
-use Rattle.std.proofs.Common.{◌≡◌, ◌⊎◌, inl, inr, ⊎_elim, ℕ, ◌+◌, ◌<◌, ◌≤◌, Bool, true, false, cond, eqb, ltb, not, List, [], ◌∷◌, ◌++◌, length, length-append, Option, Some, None, Result, Ok, Err, refl, sym, ◌∙◌, ap, subst, arith}
+use Rattle.std.proofs.Common.{◌≡◌, inl, inr, ℕ, ◌+◌, ◌≤◌, Bool, true, false, cond, eqb, ltb, not, List, [], ◌∷◌, ◌++◌, length, length-append, Option, Some, None, Result, Ok, Err, refl, sym, ◌∙◌, ap, subst, arith}
 use mathlib.Core.List.{IsPrefix}
 use Rattle.std.specs.Option.{option_map}
 use Rattle.std.proofs.lemmas.List.{length-map}
@@ -13,22 +13,22 @@ use Rattle.chain_core.specs.declared.answer.Decision.TheVariants as decide
 use Rattle.chain_core.specs.declared.answer.LogAnswer.{LogAnswer}
 use Rattle.chain_core.specs.declared.answer.LogAnswer.TheVariants as answers
 use Rattle.chain_core.specs.declared.chain.Patch.{Patch}
-use Rattle.chain_core.specs.Decision.{run_decision, decision, decision_on, decision_on_new, version_known, version_named, first_found, same_id, stands_at}
+use Rattle.chain_core.specs.Decision.{run_decision, decision, decision_on, version_named, first_found, same_id}
 use Rattle.chain_core.specs.Ids.{version_among}
 use Rattle.chain_core.specs.Patches.{patch_ids, version_of, last_id, journal_length}
-use Rattle.chain_core.specs.Replies.{LogCall, append, describe, LogReply, answered, described, log_reply}
+use Rattle.chain_core.specs.Replies.{LogCall, append, describe, LogReply, answered, described}
 use Rattle.chain_core.specs.Runs.{entries_of, prev_of_run}
 use Rattle.chain_core.specs.Stay.{answer_of}
 use Rattle.patch_log.specs.State.{LogView}
 use Rattle.turn_cell.specs.declared.view.Known.{Known}
-use Rattle.turn_cell.specs.Knowing.{SeesOn, IsQuiet, KnowsItsOwn, pass_number, seen_of, own_faults_of}
+use Rattle.turn_cell.specs.Knowing.{KnowsItsOwn, pass_number, seen_of, own_faults_of}
 use Rattle.turn_cell.proofs.Views.{prefix_trans, prefix_refl}
 use Rattle.shared_log.specs.declared.value.Placed.{Placed}
 use Rattle.shared_log.specs.History.{LogSight, SeesWhole, history_of, patches_known}
 use Rattle.shared_log.specs.Legal.{BroughtRun, IsAppendAnswer, LegalOnLog}
 use Rattle.mirror.specs.declared.ends.PullRefusal.{PullRefusal}
 use Rattle.mirror.specs.declared.ends.PullRefusal.TheVariants.{BadPatch, Diverged, Full, DiskFault, OutOfMemory}
-use Rattle.mirror.specs.Pulling.{AppendsText, CallsLog, ComesOf, IsTextRefusal, IsThere, ShowsLog, TakesText, unasked, asked}
+use Rattle.mirror.specs.Pulling.{CallsLog, ComesOf, IsTextRefusal, TakesText, unasked, asked}
 
 -- ---- decisions
 
@@ -182,7 +182,7 @@ module _ {D : Type 0} (disks : Ghosts D) (origin : LogView D) where
       subst (λ (it : LogSight). Rose (own_faults_of p) (own_faults_of it)) (sym comes.1) (told_of limits p m patch answers.DiskFault legal).1
   comes_faulted limits version patch answers.OutOfMemory p m q legal comes = let result : ◌≡◌ {A = Result ℕ PullRefusal} (Err DiskFault) (Err OutOfMemory) = comes.0 in absurd (cc)
 
-  refused_so : (text : List ℕ) (version : ℕ) (refusal : PullRefusal) → IsTextRefusal text version refusal → refusal ≡ DiskFault → ⊥
+  pub refused_so : (text : List ℕ) (version : ℕ) (refusal : PullRefusal) → IsTextRefusal text version refusal → refusal ≡ DiskFault → ⊥
   refused_so text version (BadPatch at fault) is same = cc
   refused_so text version (Diverged has head theirs) is same = cc
   refused_so text version (Full what have limit) is same = cc

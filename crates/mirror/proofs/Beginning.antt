@@ -1,23 +1,21 @@
 -- A log into which only pulls bring patches begins its origin's chain.
-use Rattle.std.proofs.Common.{◌≡◌, ◌≢◌, ◌⊎◌, inl, inr, ⊎_elim, ℕ, suc, ◌<◌, ◌≤◌, List, [], ◌∷◌, ◌++◌, append_assoc, Option, Some, None, Ok, refl, sym, ◌∙◌, ap, subst, arith}
+use Rattle.std.proofs.Common.{◌≡◌, ◌≢◌, ◌⊎◌, inl, inr, ⊎_elim, ℕ, ◌<◌, ◌≤◌, List, [], ◌∷◌, ◌++◌, append_assoc, Option, Some, None, Ok, refl, sym, ◌∙◌, ap, subst}
 use Rattle.std.specs.Prelude.{map}
 use Rattle.std.specs.List.{AllByRecursion}
-use Rattle.std.proofs.lemmas.List.{append-nil, append_cancel_left, map-append}
+use Rattle.std.proofs.lemmas.List.{append_cancel_left, map-append}
 use mathlib.Core.List.{IsPrefix}
 use Rattle.patch_meaning.specs.Patch.{Meaning, IsPatch}
 use Rattle.patch_meaning.proofs.Settled.{one_meaning}
 use Rattle.disk_model.specs.declared.disk.Disk.{Ghosts}
-use Rattle.disk_model.specs.Past.{EveryImage, MayLeave}
 use Rattle.log_journal.specs.File.{Holds}
 use Rattle.log_base.specs.OneMore.{with_one_more}
 use Rattle.delta_client.specs.Exchanges.{WasSaid}
 use Rattle.rpc_answers.specs.declared.answer.Answer.TheVariants as origin_says
-use Rattle.chain_core.specs.declared.chain.Entry.{Entry}
 use Rattle.chain_core.specs.declared.chain.Patch.{Patch}
 use Rattle.chain_core.specs.Among.{AreAmong, IsAmong}
 use Rattle.chain_core.specs.Links.{IsChain}
 use Rattle.chain_core.specs.Patches.{links_of, patches_of}
-use Rattle.chain_core.specs.Runs.{patches_in, run_text, run_texts, runs_of}
+use Rattle.chain_core.specs.Runs.{patches_in, run_text, runs_of}
 use Rattle.chain_core.proofs.Among.{begins}
 use Rattle.chain_core.proofs.Runs.{patches_in-push, patches_in-runs}
 use Rattle.patch_log.specs.Log.{IsSound, MayHoldChain, StandsForLog}
@@ -29,9 +27,9 @@ use Rattle.turn_cell.specs.Sights.{Made, ComesFrom}
 use Rattle.turn_cell.specs.Turns.{AllOf, IsIn, places_by}
 use Rattle.turn_cell.proofs.Members.{one_of_mapped, unmapped}
 use Rattle.shared_log.specs.declared.value.Placed.{Placed}
-use Rattle.shared_log.specs.History.{LogSight, history_of, patches_known, shared_log}
+use Rattle.shared_log.specs.History.{LogSight, history_of, patches_known}
 use Rattle.shared_log.proofs.Histories.{by_nobody, known_chain}
-use Rattle.mirror.specs.Following.{AreActs, BeginsOrigin, BringsOnly, HasTextAmong, HoldsBeginning, IsAct, asks, pulls, IsMirrorRun, MirrorPass, OnlyMirrors, TextsAreAmong}
+use Rattle.mirror.specs.Following.{AreActs, BeginsOrigin, BringsOnly, HoldsBeginning, IsAct, asks, pulls, IsMirrorRun, MirrorPass, OnlyMirrors, TextsAreAmong}
 use Rattle.mirror.proofs.Running.{run_went}
 use Rattle.mirror.proofs.Bringing.{all_behind, all_so, asking_brings, brings_both, brings_none, none_by, others_behind, pull_brings, read_sound}
 

@@ -1,10 +1,7 @@
 -- What a pull brings into the list.
-use Rattle.std.proofs.Common.{◌≡◌, ◌≢◌, ◌⊎◌, inl, inr, ⊎_elim, ℕ, zero, suc, ◌+◌, ◌<◌, ◌≤◌, Bool, true, false, cond, eqb, eq-eqb, ne_eqb, List, [], ◌∷◌, ◌++◌, length, length-append, append_assoc, Option, Some, Result, Ok, Err, refl, sym, ◌∙◌, ap, subst, arith}
-use Rattle.std.specs.Prelude.{map}
+use Rattle.std.proofs.Common.{◌≡◌, ◌≢◌, ◌⊎◌, inl, inr, ⊎_elim, ℕ, ◌+◌, ◌<◌, Bool, true, false, cond, eqb, eq-eqb, ne_eqb, List, [], ◌∷◌, ◌++◌, length, length-append, append_assoc, Option, Some, Result, Ok, Err, refl, sym, ◌∙◌, ap, subst, arith}
 use Rattle.std.proofs.lemmas.List.{append-nil}
-use mathlib.Core.List.{IsPrefix}
 use Rattle.patch_meaning.specs.Patch.{IsPatch}
-use Rattle.patch_meaning.specs.Checked.{CheckedPatch}
 use Rattle.delta_base.specs.declared.id.Id.{Id}
 use Rattle.disk_model.specs.declared.disk.Disk.{Ghosts}
 use Rattle.log_base.specs.declared.limits.LogLimits.{LogLimits}
@@ -13,26 +10,25 @@ use Rattle.rpc_answers.specs.declared.answer.Answer.TheVariants as origin_says
 use Rattle.chain_core.specs.declared.answer.LogAnswer.{LogAnswer}
 use Rattle.chain_core.specs.declared.answer.LogAnswer.TheVariants as answers
 use Rattle.chain_core.specs.declared.chain.Patch.{Patch}
-use Rattle.chain_core.specs.Replies.{LogCall, append, describe, LogReply, answered, described}
-use Rattle.chain_core.specs.Runs.{entries_of}
+use Rattle.chain_core.specs.Replies.{append, answered}
 use Rattle.patch_log.specs.Log.{IsSound, bare}
 use Rattle.patch_log.specs.Opening.{IsPatchRead}
 use Rattle.patch_log.specs.State.{LogView}
 use Rattle.turn_cell.specs.declared.view.Known.{Known}
-use Rattle.turn_cell.specs.Knowing.{KnowsItsOwn, IsQuiet, SeesOn, Wants, pass_number, seen_of, mine_of, failed_of}
+use Rattle.turn_cell.specs.Knowing.{KnowsItsOwn, IsQuiet, SeesOn, pass_number, seen_of, mine_of, failed_of}
 use Rattle.turn_cell.specs.Turns.{AllOf, IsIn, places_by, places_from}
 use Rattle.turn_cell.proofs.Views.{places_append}
 use Rattle.shared_log.specs.declared.value.Placed.{Placed}
-use Rattle.shared_log.specs.History.{LogSight, history_of}
+use Rattle.shared_log.specs.History.{LogSight}
 use Rattle.shared_log.specs.Legal.{BroughtRun, LegalOnLog}
 use Rattle.catch_up.specs.declared.end.RunEnd.{RunEnd}
 use Rattle.catch_up.specs.Runs as runs
 use Rattle.catch_up.specs.Runs.{FetchEnds, IsRunTo, RestIs, Run, TakenText, TakesAll, said_in, step_texts, texts_said}
 use Rattle.mirror.specs.declared.ends.PullEnd.{PullEnd}
 use Rattle.mirror.specs.declared.ends.PullRefusal.{PullRefusal}
-use Rattle.mirror.specs.Pulling.{AppendsText, CallsLog, ComesOf, ShowsLog, TakesText, unasked, asked, Pulled}
+use Rattle.mirror.specs.Pulling.{ComesOf, ShowsLog, TakesText, unasked, asked, Pulled}
 use Rattle.mirror.specs.Following.{BringsOnly, IsReadFrom}
-use Rattle.mirror.proofs.Answered.{Went, called_went, told_of, takes_went}
+use Rattle.mirror.proofs.Answered.{called_went, told_of, takes_went}
 
 -- ---- lists
 
@@ -44,11 +40,11 @@ pub all_so : {A : Type 0} (P Q : A → Type 0) (xs : List A) → ((x : A) → P 
 all_so P Q [] so all = tt
 all_so P Q (x ∷ xs) so all = (so x all.0, all_so P Q xs so all.1)
 
-in_right : {A : Type 0} (x : A) (xs ys : List A) → IsIn x ys → IsIn x (xs ++ ys)
+pub in_right : {A : Type 0} (x : A) (xs ys : List A) → IsIn x ys → IsIn x (xs ++ ys)
 in_right x [] ys is = is
 in_right x (y ∷ xs) ys is = inr (in_right x xs ys is)
 
-in_left : {A : Type 0} (x : A) (xs ys : List A) → IsIn x xs → IsIn x (xs ++ ys)
+pub in_left : {A : Type 0} (x : A) (xs ys : List A) → IsIn x xs → IsIn x (xs ++ ys)
 in_left x [] ys is = absurd is
 in_left x (y ∷ xs) ys (inl is) = inl is
 in_left x (y ∷ xs) ys (inr is) = inr (in_left x xs ys is)
@@ -232,7 +228,7 @@ module _ (Such : Patch → Type 0) where
 
 -- ---- texts
 
-steps_said : (said : List WasSaid) (steps : List TakenText) → ((x : WasSaid) → IsIn x (texts_said (step_texts steps)) → IsIn x said) → AllOf (λ step. IsIn (Ok (origin_says.Patch step.text)) said) steps
+pub steps_said : (said : List WasSaid) (steps : List TakenText) → ((x : WasSaid) → IsIn x (texts_said (step_texts steps)) → IsIn x said) → AllOf (λ step. IsIn (Ok (origin_says.Patch step.text)) said) steps
 steps_said said [] within = tt
 steps_said said (step ∷ steps) within = (within (Ok (origin_says.Patch step.text)) (inl refl), steps_said said steps (λ x is. within x (inr is)))
 

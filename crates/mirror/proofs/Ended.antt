@@ -8,7 +8,6 @@ use Rattle.rpc_answers.specs.declared.answer.Answer.{Answer}
 use Rattle.catch_up.specs.declared.end.RunEnd.{RunEnd}
 use Rattle.catch_up.specs.declared.end.RunEnd.TheVariants as run
 use Rattle.catch_up.specs.Ends as peer
-use Rattle.mirror.specs.declared.ends.PullEnd.{PullEnd}
 use Rattle.mirror.specs.declared.ends.PullEnd.TheVariants as pull
 use Rattle.mirror.specs.declared.ends.PullRefusal.{PullRefusal}
 use Rattle.mirror.specs.declared.ends.PullRefusal.TheVariants as text

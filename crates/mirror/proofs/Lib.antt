@@ -3,3 +3,4 @@ mod Ended
 mod Running
 mod Bringing
 mod Beginning
+mod Calling

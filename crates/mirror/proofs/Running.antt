@@ -1,5 +1,5 @@
 -- What a run of a log comes to.
-use Rattle.std.proofs.Common.{◌≡◌, ◌⊎◌, inl, inr, ⊎_elim, ℕ, ◌+◌, ◌<◌, ◌≤◌, ◌^◌, ◌-◌, List, [], ◌∷◌, length, Option, Some, Result, Ok, Err, refl, sym, ◌∙◌, ap, subst, arith}
+use Rattle.std.proofs.Common.{◌≡◌, inl, inr, ⊎_elim, ℕ, ◌+◌, ◌<◌, ◌≤◌, ◌^◌, ◌-◌, List, [], ◌∷◌, length, Option, Result, Ok, Err, refl, sym, ◌∙◌, ap, subst, arith}
 use Rattle.std.proofs.lemmas.List.{length-map}
 use mathlib.Core.List.{IsPrefix}
 use Rattle.delta_base.specs.Outside.{Rose}
@@ -9,24 +9,21 @@ use Rattle.delta_client.specs.Exchanges.{WasSaid}
 use Rattle.rpc_answers.specs.declared.answer.Answer.TheVariants as origin_says
 use Rattle.chain_core.specs.declared.chain.Patch.{Patch}
 use Rattle.chain_core.specs.Patches.{last_id}
-use Rattle.chain_core.specs.Replies.{LogReply, describe, described, log_reply}
+use Rattle.chain_core.specs.Replies.{describe, described}
 use Rattle.patch_log.specs.State.{LogView}
 use Rattle.turn_cell.specs.declared.view.Known.{Known}
 use Rattle.turn_cell.specs.Knowing.{KnowsItsOwn, pass_number, seen_of, own_faults_of}
 use Rattle.shared_log.specs.declared.value.Placed.{Placed}
 use Rattle.shared_log.specs.History.{LogSight, SeesWhole, patches_known}
 use Rattle.catch_up.specs.declared.end.RunEnd.{RunEnd}
-use Rattle.catch_up.specs.declared.end.RunEnd.TheVariants as run
 use Rattle.catch_up.specs.Runs as runs
 use Rattle.catch_up.specs.Runs.{FetchEnds, IsRunTo, RestIs, Run, TakenText, TakesAll}
-use Rattle.mirror.specs.declared.ends.PullEnd.{PullEnd}
 use Rattle.mirror.specs.declared.ends.PullEnd.TheVariants as pull
 use Rattle.mirror.specs.declared.ends.PullRefusal.{PullRefusal}
-use Rattle.mirror.specs.declared.ends.PullRefusal.TheVariants.{DiskFault}
-use Rattle.mirror.specs.Ends.{end_of_pull, end_of_refused}
+use Rattle.mirror.specs.Ends.{end_of_pull}
 use Rattle.mirror.specs.Pulling.{ShowsLog, TakesText}
 use Rattle.mirror.proofs.Answered.{Went, went_none, went_both, called_went, takes_went, takes_within, takes_faulted}
-use Rattle.mirror.proofs.Ended.{IsOfPeer, not_caught_up, no_disk, refused_not_caught_up, refused_by_disk, compared_of_peer, log_of_peer, answered_of_peer, faulty_of_peer, want_of_peer}
+use Rattle.mirror.proofs.Ended.{not_caught_up, no_disk, refused_not_caught_up, refused_by_disk, compared_of_peer, log_of_peer, answered_of_peer, faulty_of_peer, want_of_peer}
 
 counted_same : (a b : ℕ) (h k : Option Id) → described a h ≡ described b k → a ≡ b
 counted_same a b h k is = cc

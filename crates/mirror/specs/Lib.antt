@@ -1,3 +1,4 @@
 pub mod Ends
 pub mod Pulling
 pub mod Following
+pub mod Calling

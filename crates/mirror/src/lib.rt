@@ -12,5 +12,5 @@ mod mirroring;
 mod pulling;
 
 pub use ends::{PullEnd, PullRefusal};
-pub use laws::{mirrors_begin_their_origin, pulls_bring_what_they_read};
+pub use laws::{mirrors_begin_their_origin, pulls_are_calls, pulls_bring_what_they_read};
 pub use pulling::pull;

@@ -2,7 +2,7 @@
 use case_scripts::Answer as Told;
 use delta_base::{Id, Text, id_text};
 use http_heads::RawRequest;
-use rpc_calls::{Call, CallFault, read_call};
+use rpc_calls::{Call, CallFault, Surface, read_call_on};
 use std::alloc::Global;
 use std::fmt::Write;
 
@@ -74,9 +74,9 @@ pub(crate) fn tell_fault(fault: CallFault, told: &mut Told) {
     }
 }
 
-/// Tells what a request asks, or why it is no call.
-pub(crate) fn tell_asked(alloc: Global, request: RawRequest, told: &mut Told) {
-    match read_call(alloc, request) {
+/// Tells what a request asks of a server of that surface, or why it is no call.
+pub(crate) fn tell_asked(alloc: Global, surface: Surface, request: RawRequest, told: &mut Told) {
+    match read_call_on(alloc, surface, request) {
         Ok(call) => {
             tell_call(&call, told);
             drop(call);

@@ -13,12 +13,14 @@ mod requests;
 mod values;
 
 use case_scripts::{Answer, Layer, Words, run_script};
+use rpc_calls::Surface;
 use std::alloc::Global;
 use std::io;
 
 #[derive(Clone, Copy)]
 enum Command {
     Call,
+    Mirror,
     Sends,
     Answer,
     Reply,
@@ -30,8 +32,9 @@ enum Command {
     Breaks,
 }
 
-const COMMANDS: [(&str, Command); 10] = [
+const COMMANDS: [(&str, Command); 11] = [
     ("call", Command::Call),
+    ("mirror", Command::Mirror),
     ("sends", Command::Sends),
     ("answer", Command::Answer),
     ("reply", Command::Reply),
@@ -55,7 +58,8 @@ impl Layer for Rpc {
     fn answer(&mut self, words: &Words, answer: &mut Answer) {
         let alloc = self.alloc;
         match words.command(&COMMANDS) {
-            Some(Command::Call) => requests::call(alloc, words, answer),
+            Some(Command::Call) => requests::call(alloc, Surface::Hall, words, answer),
+            Some(Command::Mirror) => requests::call(alloc, Surface::Mirror, words, answer),
             Some(Command::Sends) => requests::sends(alloc, words, answer),
             Some(Command::Answer) => answers::answer(alloc, words, answer),
             Some(Command::Reply) => made::reply(alloc, words, false, answer),

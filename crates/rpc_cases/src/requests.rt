@@ -9,7 +9,7 @@ use case_scripts::{Answer as Told, Words};
 use delta_base::{Bytes, OutOfMemory, Text};
 use http_heads::RawRequest;
 use http_text::{RequestReader, print_request};
-use rpc_calls::{Call, print_call, read_call};
+use rpc_calls::{Call, Surface, print_call, read_call};
 use std::alloc::Global;
 
 /// The host of all requests.
@@ -42,9 +42,9 @@ fn request(alloc: Global, words: &Words) -> RawRequest {
     }
 }
 
-/// `call METHOD PATH [BODY [TYPE [CODING]]]`: what a request asks, or why it is no call.
-pub(crate) fn call(alloc: Global, words: &Words, told: &mut Told) {
-    tell_asked(alloc, request(alloc, words), told);
+/// `call METHOD PATH [BODY [TYPE [CODING]]]`, of a mirror `mirror ..`: what a request asks, or why it is no call.
+pub(crate) fn call(alloc: Global, surface: Surface, words: &Words, told: &mut Told) {
+    tell_asked(alloc, surface, request(alloc, words), told);
 }
 
 // The text of the request that a client sends for a call.
@@ -77,7 +77,7 @@ fn tell_read(alloc: Global, text: &[u8], told: &mut Told) {
     let request = reader.take();
     drop(reader);
     if let Some(request) = request {
-        tell_asked(alloc, request, told);
+        tell_asked(alloc, Surface::Hall, request, told);
     }
 }
 
@@ -85,7 +85,7 @@ fn tell_read(alloc: Global, text: &[u8], told: &mut Told) {
 pub(crate) fn sends(alloc: Global, words: &Words, told: &mut Told) {
     tell_sent(alloc, request(alloc, words), told);
     let mut asked = Told::new(alloc);
-    tell_asked(alloc, request(alloc, words), &mut asked);
+    tell_asked(alloc, Surface::Hall, request(alloc, words), &mut asked);
     let mut again = Told::new(alloc);
     tell_read(alloc, told.bytes(), &mut again);
     if again.bytes() != asked.bytes() {

@@ -1,4 +1,4 @@
-use Rattle.std.proofs.Common.{◌≡◌, List, ℕ, sym, subst}
+use Rattle.std.proofs.Common.{List, ℕ, sym, subst}
 use Rattle.mirror.specs.declared.ends.PullRefusal.{PullRefusal}
 use Rattle.mirror.specs.Pulling.{IsTextRefusal}
 use Rattle.mirror.proofs.Ended.{refuses_text}

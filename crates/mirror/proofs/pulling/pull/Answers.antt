@@ -1,4 +1,4 @@
-use Rattle.std.proofs.Common.{◌≡◌, sym, ◌∙◌}
+use Rattle.std.proofs.Common.{sym, ◌∙◌}
 use Rattle.mirror.proofs.Running.{run_went, run_faulted, run_caught_up}
 use Rattle.mirror.proofs.pulling.pull.Goals as goal
 

@@ -1,8 +1,7 @@
-use Rattle.std.proofs.Common.{◌≡◌, ℕ, List, [], ◌∷◌, Option, Some, Result, Ok, Err, refl, sym, ◌∙◌, ap, subst}
+use Rattle.std.proofs.Common.{◌≡◌, ℕ, List, Option, Result, Ok, Err, refl, subst}
 use Rattle.std.specs.Prelude.{IfOk, ◌≤◌, length}
 use Rattle.delta_base.specs.declared.id.Id.{Id}
 use Rattle.chain_core.specs.declared.chain.Patch.{Patch}
-use Rattle.chain_core.specs.declared.answer.LogAnswer.{LogAnswer}
 use Rattle.patch_log.specs.Log.{bare}
 use Rattle.patch_log.specs.Opening.{IsPatchRead}
 use Rattle.turn_cell.specs.Knowing.{seen_of}

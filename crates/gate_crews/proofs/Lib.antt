@@ -1,0 +1,3 @@
+pub mod Gathered
+mod Posted
+mod Risen
