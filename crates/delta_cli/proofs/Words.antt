@@ -8,7 +8,7 @@ use Rattle.command_tables.specs.Positions.{ArePlain, FitPositions, IsPlainWord}
 use Rattle.rpc_calls.specs.declared.call.Call.{Call}
 use Rattle.rpc_calls.specs.declared.call.Call.TheVariants as calls
 use Rattle.dataset_tx.specs.declared.pattern.Pattern.{Pattern}
-use Rattle.zone_commands.specs.Words.{IsPatternOf}
+use Rattle.pattern_words.specs.Words.{IsPatternOf}
 use Rattle.zone_commands.specs.declared.reading.Reading.{Reading}
 use Rattle.zone_commands.specs.declared.reading.Reading.TheVariants as readings
 use Rattle.delta_base.specs.Ids.{number_of}

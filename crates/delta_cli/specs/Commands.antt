@@ -8,7 +8,7 @@ use Rattle.delta_base.specs.declared.id.Id.{Id}
 use Rattle.rpc_calls.specs.Routes.{version_asked}
 use Rattle.rpc_calls.specs.declared.call.Call.{Call}
 use Rattle.rpc_calls.specs.declared.call.Call.TheVariants as calls
-use Rattle.zone_commands.specs.Words.{IsPatternOf}
+use Rattle.pattern_words.specs.Words.{IsPatternOf}
 use Rattle.zone_commands.specs.declared.reading.Reading.{Reading}
 use Rattle.zone_commands.specs.declared.reading.Reading.TheVariants as readings
 use Rattle.command_tables.specs.Addresses.{IsAddress}

@@ -1,6 +1,6 @@
 //! What the words ask of a zone.
 ghost use Rattle.std.specs.Prelude.{◌≡◌, [], ℕ, get_or, true, IfOk, IfErr};
-ghost use Rattle.zone_commands.specs.Words.{Finds, IsPatternOf};
+ghost use Rattle.pattern_words.specs.Words.{Finds, IsPatternOf};
 ghost use Rattle.command_tables.specs.Channels.{words_of};
 ghost use Rattle.command_tables.specs.Names.{FitsName, is_of_zone};
 ghost use Rattle.delta_cli.specs.Commands.{Asks, RefusesWords};
@@ -11,8 +11,9 @@ use crate::command::Command;
 use command_tables::{Name, Refusal, is_address};
 use dataset_tx::Pattern;
 use delta_base::{OutOfMemory, Text};
+use pattern_words::read_pattern;
 use std::alloc::Global;
-use zone_commands::{Reading, read_pattern};
+use zone_commands::Reading;
 
 /// The command of this name, which is on a zone, and whose words are one for each of its positions.
 pub fn make_of_zone(alloc: Global, name: Name, words: &[String]) -> Result<Command, Refusal>

@@ -31,6 +31,7 @@ module _ {D H : Type 0} (disks : Ghosts D) (shelf : ShelfGhosts H D) where
     pub asked : AreDisksAsked dir files disks_are
     pub opened : IsOpenedHall disks disks_are hall
     pub seats : hall.logs.seats ≡ workers
+    pub registry_seats : hall.registry.seats ≡ hall.logs.seats
     pub each : EachHasItsSeats hall.logs
     pub all : AreHallPasses disks hall passes
     pub new : AreNewPasses disks hall 1 passes

@@ -66,6 +66,7 @@ fn open_logs<D: Disk>(
     ensures hall { (disk : D) → IsOpenedRegistry D.Disk disk registry
         → IfOk result (λ r. IsOpenedHall D.Disk (disk ∷ disks.items) r.0) }
     ensures seats { IfOk result (λ r. r.0.logs.seats ≡ workers) }
+    ensures registry_seats { IfOk result (λ r. r.0.registry.seats ≡ r.0.logs.seats) }
     ensures each { IfOk result (λ r. EachHasItsSeats r.0.logs) }
     ensures passes { IfOk result (λ r. AreHallPasses D.Disk r.0 r.1.passes.items) }
     ensures new { IfOk result (λ r. AreNewPasses D.Disk r.0 1 r.1.passes.items) }
@@ -99,6 +100,7 @@ pub fn open_hall<D: Disk>(
     requires workers { (0 < workers) × (workers ≤ 16) }
     ensures hall { IfOk result (λ r. IsOpenedHall D.Disk disks.items r.0) }
     ensures seats { IfOk result (λ r. r.0.logs.seats ≡ workers) }
+    ensures registry_seats { IfOk result (λ r. r.0.registry.seats ≡ r.0.logs.seats) }
     ensures each { IfOk result (λ r. EachHasItsSeats r.0.logs) }
     ensures passes { IfOk result (λ r. AreHallPasses D.Disk r.0 r.1.passes.items) }
     ensures new { IfOk result (λ r. AreNewPasses D.Disk r.0 1 r.1.passes.items) }

@@ -65,6 +65,7 @@ pub(crate) fn share<D: Disk>(
     requires rooms { HasRoom logs rooms × (length logs.logs < rooms.disks) }
     requires passes { (passes.items ≡ []) × (logs.seats ≤ vec_capacity passes) }
     ensures lists { IfOk result (λ r. (r.0.registry.origin ≡ registry) × (r.0.logs ≡ logs)) }
+    ensures registry_seats { IfOk result (λ r. r.0.registry.seats ≡ r.0.logs.seats) }
     ensures passes { IfOk result (λ r. AreHallPasses D.Disk r.0 r.1.passes.items) }
     ensures new { IfOk result (λ r. AreNewPasses D.Disk r.0 1 r.1.passes.items) }
     ensures room { IfOk result (λ r. HasHallRoom r.0 r.1.room) }

@@ -4,6 +4,7 @@ ghost use Rattle.deployment.specs.Followers.{FollowersFollow};
 ghost use Rattle.deployment.specs.Shown.{ClosedRunsAreRuns, KilledRunsAreRuns};
 
 use disk_model::Disk;
+use follower::Follower;
 
 /// Whatever the runs, their calls, their interleaving and their stops: there is one chain of which
 /// every reply is the one that it gives at a point, no earlier than all that its pass had seen,
@@ -17,10 +18,11 @@ pub fn stops_leave_a_log<D: Disk>()
     ensures { StopsLeaveALog D.Disk }
 {}
 
-/// Whatever a follower was told by these calls, wherever it stopped and was opened again: its
-/// patches begin that chain, and its dataset is their replay.
-pub fn followers_follow<D: Disk, Z: Disk>()
-    ensures { FollowersFollow D.Disk Z.Disk }
+/// Whatever a follower was told by these calls, whether its zone stands on one file or on two, of
+/// which checkpoints are made, wherever it stopped and was opened again: its patches begin that
+/// chain, and its dataset is their replay.
+pub fn followers_follow<D: Disk, Z: Follower>()
+    ensures { FollowersFollow D.Disk Z.footing }
 {}
 
 /// A run that was closed is one of a deployment's, by what its calls and the close ensure.

@@ -111,7 +111,7 @@ module _ {D : Type 0} (disks : Ghosts D) (tells : disks.tells) where
     -- of one that was killed
     killed_run : WasKilled disks run → Found
     killed_run was =
-        let at = was place (within run.hall.logs.logs place log opened.log_is) in
+        let at = was.at place (within run.hall.logs.logs place log opened.log_is) in
         let log_run = at.log_run in
         let same : log_run.made ≡ log = same_some log_run.made log (sym at.at.made ∙ opened.log_is) in
         let seats : log_run.made.seats ≡ run.hall.logs.seats = all_got (λ (log : Made (LogView D)). log.seats ≡ run.hall.logs.seats) run.hall.logs.logs place log_run.made is.each at.at.made in

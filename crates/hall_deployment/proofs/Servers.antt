@@ -73,6 +73,7 @@ module _ {D H : Type 0} (disks : Ghosts D) (shelf : ShelfGhosts H D) where
   closed_over dir files workers hall given told over passes left given_is stepped closed = record {
     begins = begun_from files dir 0 over.disks_are (over.asked.begun told);
     opened = over.opened;
+    seats = over.registry_seats;
     each = over.each;
     all = subst (AreHallPasses disks hall) (sym given_is) over.all;
     new = subst (AreNewPasses disks hall 1) (sym given_is) over.new;

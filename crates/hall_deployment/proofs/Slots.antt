@@ -50,9 +50,12 @@ module _ {D : Type 0} (hall : HallView D) where
     -- what that is on the log at a place
     pub amid_at : (in_step : Option StepUnderWay) → IsAmidStep hall p in_step q → IsAmid left (in_call_at place in_step) now
     amid_at None same = still (ap (λ (l : Lists). slice_get l.logs place) same)
-    amid_at (Some on_registry) same = still (ap (λ (l : List LogSight). slice_get l place) same)
-    amid_at (Some (on_log slot call)) on = dite (ℕ_discrete slot (place + 1)) here there
+    amid_at (Some (on_registry call)) step = still (ap (λ (l : List LogSight). slice_get l place) step.1)
+    amid_at (Some (on_log slot call)) step = dite (ℕ_discrete slot (place + 1)) here there
       where
+        on : OnSlot slot (λ log part now. IsAmid part (Some call) now) hall.logs.logs p.logs q.logs
+        on = step.0
+
         here : slot ≡ place + 1 → IsAmid left (in_call_at place (Some (on_log slot call))) now
         here slot_is =
             let same : on.place ≡ place = omega (arith, on.slot_is, slot_is) in

@@ -5,8 +5,10 @@ use Rattle.std.specs.List.{AllZip}
 use Rattle.disk_model.specs.declared.disk.Disk.{Ghosts}
 use Rattle.disk_model.specs.Past.{began, MayLeave, Keeps}
 use Rattle.chain_core.specs.Replies.{LogCall}
+use Rattle.registry_core.specs.Replies.{RegistryCall}
 use Rattle.turn_cell.specs.Turns.{AllOf}
 use Rattle.shared_log.specs.Moments.{LogCell, IsLogMoment}
+use Rattle.shared_registry.specs.Moments.{RegistryCell, IsRegistryMoment}
 use Rattle.hall_logs.specs.Slots.{EachHasItsSeats, OnSlot}
 use Rattle.delta_session.specs.Ends.{IsEnded}
 use Rattle.delta_session.specs.Halls.{AreHallPasses, AreNewPasses}
@@ -14,11 +16,14 @@ use Rattle.delta_session.specs.Opening.{IsOpenedHall}
 use Rattle.delta_session.specs.Steps.{HallView, HallSight, Lists}
 use Rattle.deployment.specs.Calls.{IsAmid}
 use Rattle.deployment.specs.History.{PassRun, ServerRun, Leaves, sights_of}
-use Rattle.hall_deployment.specs.Seen.{SeenStep, AreSeenSteps, calls_at}
+use Rattle.registry_deployment.specs.Calls.{IsAmidOnRegistry}
+use Rattle.registry_deployment.specs.History.{RegistryPassRun, RegistryRun, LeavesRegistry}
+use Rattle.registry_deployment.specs.History.{registry_sights}
+use Rattle.hall_deployment.specs.Seen.{SeenStep, AreSeenSteps, calls_at, lookups_in}
 
--- a step that had no answer at the stop: on the registry, or a call on the log of a slot
+-- a step that had no answer at the stop: a call on the registry, or one on the log of a slot
 pub data StepUnderWay : Type 0 where
-  on_registry : StepUnderWay
+  on_registry : RegistryCall → StepUnderWay
   on_log : ℕ → LogCall → StepUnderWay
 
 -- what a pass of a hall did: what it knew as it was given, its steps that were answered, the one
@@ -47,8 +52,29 @@ stopped_in run = map (λ pass. pass.at_stop) run.passes
 -- the call on the log at a place that a pass was in
 abbrev pub in_call_at : ℕ → Option StepUnderWay → Option LogCall
 in_call_at place None = None
-in_call_at place (Some on_registry) = None
+in_call_at place (Some (on_registry call)) = None
 in_call_at place (Some (on_log slot call)) = if slot == place + 1 then Some call else None
+
+-- the call on the registry that it was in
+abbrev pub in_lookup : Option StepUnderWay → Option RegistryCall
+in_lookup None = None
+in_lookup (Some (on_registry call)) = Some call
+in_lookup (Some (on_log slot call)) = None
+
+-- what a pass did on the registry
+abbrev pub registry_part : HallPassRun → RegistryPassRun
+registry_part pass = record {
+  calls = lookups_in pass.steps;
+  in_call = in_lookup pass.in_step;
+  at_stop = pass.at_stop.lists.registry;
+}
+
+-- the run of the registry, whose file is the first
+pub record IsRunOfRegistry {D : Type 0} (run : HallRun D) (registry_run : RegistryRun D) :
+    Type 0 where
+  pub made : registry_run.made ≡ run.hall.registry
+  pub passes : registry_run.passes ≡ map registry_part run.passes
+  pub image : slice_get run.images 0 ≡ Some registry_run.image
 
 -- what a pass did on the log at a place
 pub record IsPassAt (place : ℕ) (pass : HallPassRun) (part : PassRun) : Type 0 where
@@ -66,9 +92,11 @@ pub record IsRunAt {D : Type 0} (place : ℕ) (run : HallRun D) (log_run : Serve
 -- the pass behind its last step that was answered, and then, amid one more or in none
 abbrev pub IsAmidStep : {D : Type 0} → HallView D → Lists → Option StepUnderWay → Lists → Type 0
 IsAmidStep hall p None q = q ≡ p
-IsAmidStep hall p (Some on_registry) q = q.logs ≡ p.logs
+IsAmidStep hall p (Some (on_registry call)) q =
+    IsAmidOnRegistry p.registry (Some call) q.registry × (q.logs ≡ p.logs)
 IsAmidStep hall p (Some (on_log slot call)) q =
     OnSlot slot (λ log part now. IsAmid part (Some call) now) hall.logs.logs p.logs q.logs
+    × (q.registry ≡ p.registry)
 
 module _ {D : Type 0} (disks : Ghosts D) where
   -- the pass made its steps, from the opening on, and may have been in one more
@@ -85,8 +113,19 @@ module _ {D : Type 0} (disks : Ghosts D) where
     pub ended : IsEnded disks run.hall (stopped_in run) left
     pub leaves : AllZip (λ disk image. MayLeave (disks.past disk) image) left run.images
 
-  -- The hall was killed. By the rule of each log's cell at that moment its passes had such parts of
-  -- the log, which lay in its turns or was with the append that was under way.
+  -- The hall was killed. By the rule of the registry's cell at that moment its passes had such parts
+  -- of the registry, which lay in its turn or was with the change that was under way.
+  pub record RegistryWasKilled (run : HallRun D) : Type 0 where
+    pub registry_run : RegistryRun D
+    pub of_run : IsRunOfRegistry run registry_run
+    pub cell : RegistryCell disks
+    pub moment : IsRegistryMoment disks registry_run.made registry_run.registry
+        (registry_sights registry_run) cell
+    pub leaves : LeavesRegistry disks registry_run.passes registry_run.registry
+        registry_run.under_way registry_run.image
+
+  -- And so it is of each log by the rule of its cell, whose parts lay in its turns or were with the
+  -- append that was under way.
   pub record WasKilledAt (run : HallRun D) (place : ℕ) : Type 0 where
     pub log_run : ServerRun D
     pub at : IsRunAt place run log_run
@@ -94,14 +133,16 @@ module _ {D : Type 0} (disks : Ghosts D) where
     pub moment : IsLogMoment disks log_run.made log_run.log (sights_of log_run) cell
     pub leaves : Leaves disks log_run.passes log_run.log log_run.under_way log_run.image
 
-  abbrev pub WasKilled : HallRun D → Type 0
-  WasKilled run = (place : ℕ) → place < length run.hall.logs.logs → WasKilledAt run place
+  pub record WasKilled (run : HallRun D) : Type 0 where
+    pub registry : RegistryWasKilled run
+    pub at : (place : ℕ) → place < length run.hall.logs.logs → WasKilledAt run place
 
   -- A run on these images, of disks that began with them: the hall was opened, its passes made
   -- their steps, and it was closed or killed.
   pub record IsHallRun (images : List (List ℕ)) (run : HallRun D) : Type 0 where
     pub begins : AllZip (λ disk image. Keeps (began image) (disks.past disk)) run.disks images
     pub opened : IsOpenedHall disks run.disks run.hall
+    pub seats : run.hall.registry.seats ≡ run.hall.logs.seats
     pub each : EachHasItsSeats run.hall.logs
     pub all : AreHallPasses disks run.hall (given_in run)
     pub new : AreNewPasses disks run.hall 1 (given_in run)

@@ -1,20 +1,28 @@
 -- The laws.
-use Rattle.std.specs.Prelude.{◌≡◌, ℕ, ◌+◌, List, map, Some, slice_get}
+use Rattle.std.specs.Prelude.{◌≡◌, ℕ, ◌+◌, List, [], ◌∷◌, map, Some, slice_get}
 use Rattle.std.specs.List.{AllZip}
 use Rattle.disk_model.specs.declared.disk.Disk.{Ghosts}
 use Rattle.log_base.specs.declared.limits.TheConstants.{LOG_LIMITS}
 use Rattle.chain_core.specs.declared.chain.Patch.{Patch}
+use Rattle.log_base.specs.declared.source_info.SourceInfo.{SourceInfo}
+use Rattle.registry_core.specs.declared.event.Event.{Event}
+use Rattle.registry_core.specs.Replies.{resolve, found}
 use Rattle.http_session.specs.Output.{Exchange}
 use Rattle.patch_log.specs.State.{LogView}
 use Rattle.turn_cell.specs.Sights.{Made}
+use Rattle.turn_cell.specs.Turns.{AllOf}
 use Rattle.shared_log.specs.History.{LogSight}
 use Rattle.hall_logs.specs.Visits.{asked_at}
 use Rattle.delta_session.specs.Sessions.{ServedSession, AreSaid, all_of}
-use Rattle.delta_session.specs.Steps.{HallView, HallSight, Lists, Step, visits_of}
+use Rattle.delta_session.specs.Steps.{HallView, HallSight, Lists, Step, of_registry, of_log}
+use Rattle.delta_session.specs.Steps.{visits_of}
 use Rattle.deployment.specs.Calls.{AreSeenCalls}
 use Rattle.deployment.specs.History.{ServerRun, IsServerRun, IsFoundIn, image_left}
 use Rattle.deployment.specs.Promise.{KeepsPromise}
-use Rattle.hall_deployment.specs.Halls.{HallRun, IsHallRun, AreHallRuns, IsRunAt}
+use Rattle.registry_deployment.specs.History.{RegistryRun, IsRegistryRun, IsRegistryIn}
+use Rattle.registry_deployment.specs.History.{registry_left}
+use Rattle.registry_deployment.specs.Promise.{KeepsRegistryPromise}
+use Rattle.hall_deployment.specs.Halls.{HallRun, IsHallRun, AreHallRuns, IsRunAt, IsRunOfRegistry}
 use Rattle.hall_deployment.specs.Seen.{SeenStep, AreSeenSteps, steps_in, calls_at}
 use Rattle.hall_deployment.specs.Seen.{exchange_seen, exchange_made}
 
@@ -75,3 +83,41 @@ module _ {D : Type 0} (disks : Ghosts D) where
       × ((found : List (List Patch))
       → IsFoundIn (image_left image log_runs) (place + 1) LOG_LIMITS found
       → KeepsPromise (place + 1) LOG_LIMITS image log_runs found)
+
+  -- and of file 0 it is a run of the registry's
+  abbrev pub HallRunsAreRegistryRuns : Type 0
+  HallRunsAreRegistryRuns =
+      (images : List (List ℕ)) (run : HallRun D)
+      → disks.tells → IsHallRun disks images run
+      → (image : List ℕ) → slice_get images 0 ≡ Some image
+      → (registry_run : RegistryRun D) × IsRunOfRegistry run registry_run
+      × IsRegistryRun disks image registry_run
+
+  -- so the registry of a hall keeps its promise, over all runs
+  abbrev pub HallsKeepTheirRegistry : Type 0
+  HallsKeepTheirRegistry =
+      (images : List (List ℕ)) (runs : List (HallRun D))
+      → disks.tells → AreHallRuns disks images runs
+      → (image : List ℕ) → slice_get images 0 ≡ Some image
+      → (registry_runs : List (RegistryRun D)) × AllZip IsRunOfRegistry runs registry_runs
+      × ((slots : ℕ) (events : List Event)
+      → IsRegistryIn (registry_left image registry_runs) slots events
+      → KeepsRegistryPromise image registry_runs slots events)
+
+-- ---- names
+
+-- The steps of a request: a log is asked only behind a look-up of a name, and it is that of the slot
+-- of the source that was found.
+abbrev pub AskByName : List Step → Type 0
+AskByName [] = Unit {0}
+AskByName (of_registry made ∷ []) = Unit {0}
+AskByName (of_registry made ∷ of_log visit ∷ []) =
+    (name : List ℕ) × (source : SourceInfo) × (made.call ≡ resolve name)
+    × (made.reply ≡ Some (found (Some source))) × (visit.slot ≡ source.slot)
+AskByName other = ⊥
+
+-- so it is of each request of a session
+abbrev pub SessionsAskByName : Type 0
+SessionsAskByName =
+    (dice last : ℕ) (exchanges : List Exchange) (steps : List (List Step))
+    → AreSaid dice exchanges steps last → AllOf AskByName steps

@@ -1,4 +1,5 @@
--- What a pass of a hall did, step by step, and which calls that were on the log of each slot.
+-- What a pass of a hall did, step by step, and which calls that were on the registry and on the log
+-- of each slot.
 use Rattle.std.specs.Prelude.{◌≡◌, ℕ, ◌+◌, List, [], ◌∷◌, ◌++◌, map, slice_get}
 use Rattle.std.specs.Prelude.{Option, Some, None, if◌then◌else◌, ◌==◌}
 use Rattle.disk_model.specs.declared.disk.Disk.{Ghosts}
@@ -7,6 +8,7 @@ use Rattle.shared_log.specs.History.{LogSight}
 use Rattle.shared_log.specs.Calls.{CallOnLog}
 use Rattle.delta_session.specs.Steps.{HallView, Lists, Step, of_registry, of_log, IsStep}
 use Rattle.deployment.specs.Calls.{SeenCall}
+use Rattle.registry_deployment.specs.Calls.{SeenOnRegistry}
 
 -- a step, with what the pass knew before and behind it
 pub record SeenStep : Type 0 where
@@ -17,6 +19,22 @@ pub record SeenStep : Type 0 where
 -- the steps alone
 abbrev pub steps_in : List SeenStep → List Step
 steps_in seen = map (λ one. one.step) seen
+
+-- the call of a step on the registry, with what the pass showed of it before and behind it
+abbrev pub lookup_in : Lists → Step → Lists → List SeenOnRegistry
+lookup_in before (of_registry asked) after =
+    record {
+      before = before.registry;
+      call = asked.call;
+      reply = asked.reply;
+      after = after.registry;
+    } ∷ []
+lookup_in before (of_log visit) after = []
+
+-- those of all steps, in their order
+abbrev pub lookups_in : List SeenStep → List SeenOnRegistry
+lookups_in [] = []
+lookups_in (one ∷ more) = lookup_in one.before one.step one.after ++ lookups_in more
 
 -- the call, with what the pass showed of its log before and behind it
 abbrev pub seen_call : CallOnLog → Option LogSight → Option LogSight → List SeenCall

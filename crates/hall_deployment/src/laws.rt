@@ -1,6 +1,8 @@
 //! Laws of every hall. These functions do nothing: their contracts are theorems.
 ghost use Rattle.hall_deployment.specs.Laws.{SessionsShowSteps, SessionsShowCalls};
 ghost use Rattle.hall_deployment.specs.Laws.{HallRunsAreRuns, HallsKeepTheirPromise};
+ghost use Rattle.hall_deployment.specs.Laws.{HallRunsAreRegistryRuns, HallsKeepTheirRegistry};
+ghost use Rattle.hall_deployment.specs.Laws.{SessionsAskByName};
 ghost use Rattle.hall_deployment.specs.Servers.{IdleServersShowRuns, ServersShowRuns};
 
 use delta_base::Link;
@@ -27,6 +29,21 @@ pub fn hall_runs_are_runs<D: Disk>()
 /// So the log of each slot keeps its promise, over all runs of the hall.
 pub fn halls_keep_their_promise<D: Disk>()
     ensures { HallsKeepTheirPromise D.Disk }
+{}
+
+/// It is a run of its registry too.
+pub fn hall_runs_are_registry_runs<D: Disk>()
+    ensures { HallRunsAreRegistryRuns D.Disk }
+{}
+
+/// So the registry keeps its promise, over all runs of the hall.
+pub fn halls_keep_their_registry<D: Disk>()
+    ensures { HallsKeepTheirRegistry D.Disk }
+{}
+
+/// A request that asks a log by a name asks that of the slot which the registry gave to the name.
+pub fn sessions_ask_by_name()
+    ensures { SessionsAskByName }
 {}
 
 /// What `run_server` ensures of a server that served is a run of its hall, whose steps are those of

@@ -12,11 +12,12 @@ use Rattle.serde_json.specs.Data.{Data, Members, object, member, no_members, nul
 use Rattle.serde_json.specs.Find.{as_object}
 use Rattle.serde_json.specs.Read.{read}
 use Rattle.rpc_calls.specs.Calls.{asked_by, asked_by_value, call_of, from_route}
-use Rattle.rpc_calls.specs.Operations.{asked, asked_of, operations, text_member, with_member, numbered_id}
-use Rattle.rpc_calls.specs.Outcomes.{bad_json}
+use Rattle.rpc_calls.specs.Operations.{asked, asked_of, asked_on, operations, text_member, with_member, numbered_id}
+use Rattle.rpc_calls.specs.Outcomes.{bad_call, bad_json}
 use Rattle.rpc_calls.specs.Requests.{IsAskable, get_of, post_of, operation_object, one, new_source}
 use Rattle.http_text.specs.Print.{IsPrintable, is_path_byte, is_visible}
 use Rattle.rpc_calls.specs.Routes.{patch_route, route_of}
+use Rattle.rpc_calls.specs.Surfaces.{has_operation}
 use Rattle.std.specs.Option.{ForSome}
 use Rattle.delta_base.proofs.IdLemmas.{number_of-text_of}
 use Rattle.delta_base.specs.Ids.{IsId, text_of}
@@ -26,31 +27,36 @@ use Rattle.rpc_calls.specs.declared.call.Call.{Call}
 use Rattle.rpc_calls.specs.declared.call.Call.TheVariants as call
 use Rattle.rpc_calls.specs.declared.route.Route.{Route}
 use Rattle.rpc_calls.specs.declared.route.Route.TheVariants as route
+use Rattle.rpc_calls.specs.declared.surface.Surface.{Surface}
+use Rattle.rpc_calls.specs.declared.surface.Surface.TheVariants.{Hall}
 
--- an object with the word of an operation
-pub asked_with : (value : Data) (word : List ℕ) → text_member (codes "operation") value ≡ Some word → asked value ≡ asked_of operations word value
-asked_with value word is = ap (λ (found : Option (List ℕ)). with_member (codes "operation") found (λ w. asked_of operations w value)) is
+-- an object with the word of an operation that the surface has
+pub asked_with : (surface : Surface) (value : Data) (word : List ℕ) → text_member (codes "operation") value ≡ Some word → has_operation surface word ≡ true
+    → asked surface value ≡ asked_of operations word value
+asked_with surface value word is has =
+    ap (λ (found : Option (List ℕ)). with_member (codes "operation") found (λ w. asked_on surface w value)) is
+    ∙ ap (λ b. if b then asked_of operations word value else Err (bad_call (codes "operation"))) has
 
 -- a body that reads as a value
-pub asked_by_text : (body : List ℕ) (found : Option Data) → IsUtf8 body → read body ≡ found → asked_by body ≡ asked_by_value found
-asked_by_text body found utf8 is =
-    ap (λ b. if b then asked_by_value (read body) else Err bad_json) (is_utf8-from_IsUtf8 body utf8) ∙ ap asked_by_value is
+pub asked_by_text : (surface : Surface) (body : List ℕ) (found : Option Data) → IsUtf8 body → read body ≡ found → asked_by surface body ≡ asked_by_value surface found
+asked_by_text surface body found utf8 is =
+    ap (λ b. if b then asked_by_value surface (read body) else Err bad_json) (is_utf8-from_IsUtf8 body utf8) ∙ ap (asked_by_value surface) is
 
 -- a value that is an object
-pub an_object : (value : Data) → is_some (as_object value) ≡ true → asked_by_value (Some value) ≡ asked value
-an_object null is = absurd (true≢false (sym is))
-an_object (boolean b) is = absurd (true≢false (sym is))
-an_object (number n) is = absurd (true≢false (sym is))
-an_object (string s) is = absurd (true≢false (sym is))
-an_object (array items) is = absurd (true≢false (sym is))
-an_object (object found) is = refl
+pub an_object : (surface : Surface) (value : Data) → is_some (as_object value) ≡ true → asked_by_value surface (Some value) ≡ asked surface value
+an_object surface null is = absurd (true≢false (sym is))
+an_object surface (boolean b) is = absurd (true≢false (sym is))
+an_object surface (number n) is = absurd (true≢false (sym is))
+an_object surface (string s) is = absurd (true≢false (sym is))
+an_object surface (array items) is = absurd (true≢false (sym is))
+an_object surface (object found) is = refl
 
 -- a body that isn't UTF-8, or reads as nothing
-pub no_json : (body : List ℕ) → (IsUtf8 body → read body ≡ None) → asked_by body ≡ Err bad_json
-no_json body none = by_test (is_utf8 body) refl
+pub no_json : (surface : Surface) (body : List ℕ) → (IsUtf8 body → read body ≡ None) → asked_by surface body ≡ Err bad_json
+no_json surface body none = by_test (is_utf8 body) refl
   where
-    by_test : (test : Bool) → is_utf8 body ≡ test → (if test then asked_by_value (read body) else Err bad_json) ≡ Err bad_json
-    by_test true is = ap asked_by_value (none (IsUtf8-from_is_utf8 body is))
+    by_test : (test : Bool) → is_utf8 body ≡ test → (if test then asked_by_value surface (read body) else Err bad_json) ≡ Err bad_json
+    by_test true is = ap (asked_by_value surface) (none (IsUtf8-from_is_utf8 body is))
     by_test false is = refl
 
 -- ---- operations
@@ -64,45 +70,45 @@ unfolding percent_decode is_utf8 chars encode
 ping_route = refl
 
 pub operation_again : (body : List ℕ) (given : Members) → IsUtf8 body → read body ≡ Some (object given)
-    → call_of (post_of (codes "/$/rpc") (codes "application/json") body) ≡ asked (object given)
+    → call_of (post_of (codes "/$/rpc") (codes "application/json") body) ≡ asked Hall (object given)
 unfolding trim_ows is_utf8
 operation_again body given utf8 is =
     let request = post_of (codes "/$/rpc") (codes "application/json") body in
-    ap (λ (r : Option Route). from_route r request) rpc_route ∙ asked_by_text body (Some (object given)) utf8 is
+    ap (λ (r : Option Route). from_route Hall r request) rpc_route ∙ asked_by_text Hall body (Some (object given)) utf8 is
 
 pub ping_again : call_of (get_of (codes "/$/ping")) ≡ Ok call.Ping
-ping_again = ap (λ (r : Option Route). from_route r (get_of (codes "/$/ping"))) ping_route
+ping_again = ap (λ (r : Option Route). from_route Hall r (get_of (codes "/$/ping"))) ping_route
 
-pub list_again : asked (operation_object (codes "list") no_members) ≡ Ok call.List
+pub list_again : asked Hall (operation_object (codes "list") no_members) ≡ Ok call.List
 list_again = refl
 
-pub source_again : (name : List ℕ) → asked (operation_object (codes "source") (one (codes "name") name)) ≡ Ok (call.Source name)
+pub source_again : (name : List ℕ) → asked Hall (operation_object (codes "source") (one (codes "name") name)) ≡ Ok (call.Source name)
 source_again name = refl
 
-pub log_again : (name : List ℕ) → asked (operation_object (codes "log") (one (codes "name") name)) ≡ Ok (call.Log name)
+pub log_again : (name : List ℕ) → asked Hall (operation_object (codes "log") (one (codes "name") name)) ≡ Ok (call.Log name)
 log_again name = refl
 
-pub version_again : (name : List ℕ) → asked (operation_object (codes "version") (one (codes "name") name)) ≡ Ok (call.Version name)
+pub version_again : (name : List ℕ) → asked Hall (operation_object (codes "version") (one (codes "name") name)) ≡ Ok (call.Version name)
 version_again name = refl
 
-pub remove_again : (name : List ℕ) → asked (operation_object (codes "remove") (one (codes "name") name)) ≡ Ok (call.Remove name)
+pub remove_again : (name : List ℕ) → asked Hall (operation_object (codes "remove") (one (codes "name") name)) ≡ Ok (call.Remove name)
 remove_again name = refl
 
-pub source_by_uri_again : (uri : List ℕ) → asked (operation_object (codes "source_by_uri") (one (codes "uri") uri)) ≡ Ok (call.SourceByUri uri)
+pub source_by_uri_again : (uri : List ℕ) → asked Hall (operation_object (codes "source_by_uri") (one (codes "uri") uri)) ≡ Ok (call.SourceByUri uri)
 source_by_uri_again uri = refl
 
 pub rename_again : (name new_name : List ℕ)
-    → asked (operation_object (codes "rename") (member (codes "name") (string name) (one (codes "new_name") new_name))) ≡ Ok (call.Rename name new_name)
+    → asked Hall (operation_object (codes "rename") (member (codes "name") (string name) (one (codes "new_name") new_name))) ≡ Ok (call.Rename name new_name)
 rename_again name new_name = refl
 
 pub source_by_id_again : (id : Id) → IsId id.0
-    → asked (operation_object (codes "source_by_id") (one (codes "id") (text_of id.0))) ≡ Ok (call.SourceById id)
+    → asked Hall (operation_object (codes "source_by_id") (one (codes "id") (text_of id.0))) ≡ Ok (call.SourceById id)
 source_by_id_again id fits =
     ap (λ (found : Option ℕ). with_member (codes "id") (option_map numbered_id found) (λ found. Ok (call.SourceById found)))
     (number_of-text_of id.0 fits)
 
 pub create_again : (name uri : List ℕ) (id : Option Id) → ForSome id (λ i. IsId i.0)
-    → asked (operation_object (codes "create") (new_source name uri id)) ≡ Ok (call.Create name uri id)
+    → asked Hall (operation_object (codes "create") (new_source name uri id)) ≡ Ok (call.Create name uri id)
 create_again name uri None fits = refl
 create_again name uri (Some id) fits =
     ap (λ (found : Option ℕ). with_member (codes "id") (option_map (λ number. Some (numbered_id number)) found) (λ found. Ok (call.Create name uri found)))
@@ -113,20 +119,20 @@ create_again name uri (Some id) fits =
 pub append_again : (path name patch : List ℕ) → route_of path ≡ Some (route.Log name)
     → call_of (post_of path (codes "application/rdf-patch") patch) ≡ Ok (call.Append name patch)
 unfolding trim_ows
-append_again path name patch is = ap (λ (r : Option Route). from_route r (post_of path (codes "application/rdf-patch") patch)) is
+append_again path name patch is = ap (λ (r : Option Route). from_route Hall r (post_of path (codes "application/rdf-patch") patch)) is
 
 pub append_run_again : (path name patches : List ℕ) → route_of path ≡ Some (route.Run name)
     → call_of (post_of path (codes "application/rdf-patch") patches) ≡ Ok (call.AppendRun name patches)
 unfolding trim_ows
-append_run_again path name patches is = ap (λ (r : Option Route). from_route r (post_of path (codes "application/rdf-patch") patches)) is
+append_run_again path name patches is = ap (λ (r : Option Route). from_route Hall r (post_of path (codes "application/rdf-patch") patches)) is
 
 pub fetch_version_again : (path name : List ℕ) (version : ℕ) → route_of path ≡ Some (route.Version name version)
     → call_of (get_of path) ≡ Ok (call.FetchVersion name version)
-fetch_version_again path name version is = ap (λ (r : Option Route). from_route r (get_of path)) is
+fetch_version_again path name version is = ap (λ (r : Option Route). from_route Hall r (get_of path)) is
 
 pub fetch_id_again : (path name : List ℕ) (n : ℕ) → route_of path ≡ Some (patch_route name n)
     → call_of (get_of path) ≡ Ok (call.FetchId name (numbered_id n))
-fetch_id_again path name n is = ap (λ (r : Option Route). from_route r (get_of path)) is
+fetch_id_again path name n is = ap (λ (r : Option Route). from_route Hall r (get_of path)) is
 
 pub get_printable : (path rest host : List ℕ) → path ≡ 47 ∷ rest → list_all is_path_byte path ≡ true → list_all is_visible host ≡ true → IsPrintable (get_of path) host
 get_printable path rest host slash bytes host_bytes = record {
@@ -162,7 +168,7 @@ decimal_utf8 n small = IsUtf8-from_ascii (decimal n) (IsAscii-decimal n small)
 -- ---- what a printed call asks
 
 pub called : {E : Type 0} (result : Result RawRequest E) (value : Data) (given : Members) (a b : Call)
-    → IfOk result (λ request. (m : Members) → value ≡ object m → call_of request ≡ asked (object m)) → value ≡ object given → asked (object given) ≡ Ok a → b ≡ a
+    → IfOk result (λ request. (m : Members) → value ≡ object m → call_of request ≡ asked Hall (object m)) → value ≡ object given → asked Hall (object given) ≡ Ok a → b ≡ a
     → IfOk result (λ request. IsAskable b → call_of request ≡ Ok b)
 called (Ok request) value given a b again is asks same = λ fits. again given is ∙ asks ∙ ap (λ (x : Call). Ok x) (sym same)
 called (Err e) value given a b again is asks same = tt

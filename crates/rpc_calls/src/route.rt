@@ -1,9 +1,10 @@
 //! Where a path leads.
 ghost use Rattle.std.specs.Prelude.{◌≡◌, IfOk};
-ghost use Rattle.rpc_calls.specs.Routes.{allowed, has_post, route_behind};
+ghost use Rattle.rpc_calls.specs.Routes.{allowed, has_post, has_route, route_behind};
 ghost use Rattle.rpc_calls.specs.Routes.{route_of, service_route, version_asked};
 
 use crate::path::{cut_path, read_segment};
+use crate::surface::Surface;
 use delta_base::{Id, OutOfMemory, Text, read_id};
 use http_heads::{are_digits, digits_value};
 use std::alloc::Global;
@@ -20,23 +21,35 @@ pub enum Route {
 }
 
 impl Route {
-    /// The methods that it has.
-    pub fn allowed(&self) -> &'static str
-        ensures { result.now ≡ allowed self.now }
+    /// Whether a surface has it.
+    pub fn is_on(&self, surface: Surface) -> bool
+        ensures { result ≡ has_route surface self.now }
     {
         match self {
-            Route::Ping | Route::Log(_) => "GET, POST",
+            Route::Run(_) => surface.takes_appends(),
+            _ => true,
+        }
+    }
+
+    /// The methods that it has.
+    pub fn allowed(&self, surface: Surface) -> &'static str
+        ensures { result.now ≡ allowed surface self.now }
+    {
+        match self {
+            Route::Ping => "GET, POST",
+            Route::Log(_) if surface.takes_appends() => "GET, POST",
             Route::Rpc | Route::Run(_) => "POST",
-            Route::Version(_, _) | Route::Patch(_, _) => "GET",
+            Route::Log(_) | Route::Version(_, _) | Route::Patch(_, _) => "GET",
         }
     }
 
     /// Whether POST is one of them.
-    pub fn has_post(&self) -> bool
-        ensures { result ≡ has_post self.now }
+    pub fn has_post(&self, surface: Surface) -> bool
+        ensures { result ≡ has_post surface self.now }
     {
         match self {
-            Route::Ping | Route::Rpc | Route::Log(_) | Route::Run(_) => true,
+            Route::Ping | Route::Rpc => true,
+            Route::Log(_) | Route::Run(_) => surface.takes_appends(),
             Route::Version(_, _) | Route::Patch(_, _) => false,
         }
     }

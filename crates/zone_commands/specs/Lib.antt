@@ -1,5 +1,4 @@
 pub mod Readings
-pub mod Words
 pub mod Disks
 pub mod Files
 pub mod Checkpoints

@@ -8,11 +8,9 @@ mod following;
 mod laws;
 mod reading;
 mod visiting;
-mod words;
 
 pub use checkpointing::{checkpoint_files, checkpoint_zone};
 pub use following::{follow_files, follow_zone};
 pub use laws::files_follow;
 pub use reading::Reading;
 pub use visiting::{read_files, read_zone};
-pub use words::{Position, graph_of, part_of, read_pattern, term_of};

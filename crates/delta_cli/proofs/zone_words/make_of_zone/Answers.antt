@@ -1,6 +1,6 @@
 use Rattle.std.proofs.Common.{ℕ, List, [], get_or, sym, subst}
 use Rattle.dataset_tx.specs.declared.pattern.Pattern.{Pattern}
-use Rattle.zone_commands.specs.Words.{Finds, IsPatternOf}
+use Rattle.pattern_words.specs.Words.{Finds, IsPatternOf}
 use Rattle.command_tables.specs.Channels.{words_of}
 use Rattle.command_tables.specs.Names.{FitsName}
 use Rattle.delta_cli.specs.Commands.{IsOfTool}

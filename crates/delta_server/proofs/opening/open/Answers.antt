@@ -17,6 +17,7 @@ returns-in-Ok-open_hall-clause-over g c = (
     asked = c.in-Ok.ensures.asked;
     opened = c.in-Ok-open_hall.ensures.hall;
     seats = c.in-Ok-open_hall.ensures.seats;
+    registry_seats = c.in-Ok-open_hall.ensures.registry_seats;
     each = c.in-Ok-open_hall.ensures.each;
     all = c.in-Ok-open_hall.ensures.passes;
     new = c.in-Ok-open_hall.ensures.new;

@@ -3,5 +3,5 @@ use Rattle.deployment.proofs.Following.{all_follow}
 use Rattle.deployment.proofs.laws.followers_follow.Goals as goal
 
 pub returns : goal.returns
-returns g c = λ number limits image runs found tells are last file zone_runs zone_tells empty zones zone_run i.
-    all_follow number limits image runs found (promise _ tells number limits image runs found are last) last.log.sound _ zone_tells file zone_runs zone_run empty zones i
+returns g c = λ number limits image runs found tells are last images zone_runs zone_tells new zones zone_run i.
+    all_follow number limits image runs found (promise _ tells number limits image runs found are last) last.log.sound (_) zone_tells images zone_runs zone_run new zones i

@@ -1,9 +1,9 @@
 use Rattle.std.proofs.Common.{◌≡◌, Option, Some, None, refl, subst}
 use Rattle.rdf_terms.specs.declared.term.Term.{Term}
 use Rattle.dataset_tx.specs.declared.pattern.GraphPart.{GraphPart}
-use Rattle.zone_commands.specs.declared.words.Position.TheVariants as position
-use Rattle.zone_commands.specs.Words.{Finds, IsGraphWord, IsPartWord}
-use Rattle.zone_commands.proofs.words.read_pattern.Goals as goal
+use Rattle.pattern_words.specs.declared.words.Position.TheVariants as position
+use Rattle.pattern_words.specs.Words.{Finds, IsGraphWord, IsPartWord}
+use Rattle.pattern_words.proofs.words.read_pattern.Goals as goal
 
 -- what is found is not some value, so it holds of none
 none_found : {X : Type 0} (Is : X → Type 0) (found : Option X) → ((x : X) → found ≡ Some x → ⊥) → Finds Is found → (x : X) → Is x → ⊥

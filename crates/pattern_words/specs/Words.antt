@@ -6,8 +6,8 @@ use Rattle.nquads_text.specs.Grammar.{TermAt}
 use Rattle.dataset_tx.specs.declared.pattern.GraphPart.{GraphPart}
 use Rattle.dataset_tx.specs.declared.pattern.GraphPart.TheVariants.{Any, Default, Named}
 use Rattle.dataset_tx.specs.declared.pattern.Pattern.{Pattern}
-use Rattle.zone_commands.specs.declared.words.Position.{Position}
-use Rattle.zone_commands.specs.declared.words.Position.TheVariants as position
+use Rattle.pattern_words.specs.declared.words.Position.{Position}
+use Rattle.pattern_words.specs.declared.words.Position.TheVariants as position
 
 -- whether a term may stand in a position
 abbrev pub fits_position : Position → Term → Bool

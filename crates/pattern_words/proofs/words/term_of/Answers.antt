@@ -1,8 +1,8 @@
 use Rattle.std.proofs.Common.{◌≡◌, ◌<◌, ℕ, List, [], length, drop, sym, subst, ap, ◌∙◌, arith, length-drop, true≢false}
 use Rattle.nquads_text.specs.Grammar.{TermAt}
-use Rattle.zone_commands.specs.Words.{fits_position}
-use Rattle.zone_commands.proofs.words.term_of.Goals as goal
-use Rattle.zone_commands.proofs.words.term_of.Goals.{then-end-text-via-then-end-text, then-end-text-via-else-end-text+then-not-allows}
+use Rattle.pattern_words.specs.Words.{fits_position}
+use Rattle.pattern_words.proofs.words.term_of.Goals as goal
+use Rattle.pattern_words.proofs.words.term_of.Goals.{then-end-text-via-then-end-text, then-end-text-via-else-end-text+then-not-allows}
 
 rest : (text : List ℕ) (end : ℕ) → drop end text ≡ [] → end < length text → ⊥
 rest text end none more = omega (arith, length-drop end text, ap length none, more)

@@ -1,7 +1,7 @@
 //! The words that stand for the parts of a pattern.
 ghost use Rattle.std.specs.Prelude.{◌≡◌, IfOk};
-ghost use Rattle.zone_commands.specs.Words.{fits_position, IsTermWord, IsPartWord};
-ghost use Rattle.zone_commands.specs.Words.{IsGraphWord, IsPatternOf, Finds};
+ghost use Rattle.pattern_words.specs.Words.{fits_position, IsTermWord, IsPartWord};
+ghost use Rattle.pattern_words.specs.Words.{IsGraphWord, IsPatternOf, Finds};
 
 use dataset_tx::{GraphPart, Pattern};
 use delta_base::OutOfMemory;
