@@ -1,0 +1,9 @@
+use Rattle.std.proofs.Common.{◌≡◌, ◌∙◌, List, ℕ, false, IfOk, ap, subst}
+use Rattle.serde_json.specs.Written.{compact_text}
+use Rattle.http_session.specs.Texts.{json_reply}
+use Rattle.call_replies.proofs.Ended.{caught_up_text}
+use Rattle.call_replies.proofs.ends.caught_up.Goals as goal
+
+pub returns-clause-reply : goal.returns-clause-reply
+returns-clause-reply c =
+    subst (λ (text : List ℕ). IfOk c.json_reply.result (λ reply. reply ≡ json_reply 200 false text)) (ap compact_text c.in_ok-value.ensures ∙ caught_up_text c.args.version) c.json_reply.ensures.reply

@@ -1,0 +1,4 @@
+pub mod Says
+pub mod Telling
+pub mod Faults
+pub mod Ends
