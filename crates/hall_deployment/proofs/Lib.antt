@@ -3,3 +3,5 @@ pub mod Slots
 pub mod Begun
 pub mod Runs
 pub mod Servers
+pub mod Registries
+pub mod Names

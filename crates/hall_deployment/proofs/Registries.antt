@@ -160,7 +160,7 @@ module _ {D : Type 0} (disks : Ghosts D) (tells : disks.tells) where
           registry_run,
           at.of_run,
           killed_is disks image registry_run tells (begun registry_run at.of_run.made) at.cell here
-              (all_at_moment disks registry_run.made registry_run.registry (registry_sights registry_run) at.cell at.moment (omega (arith, seats, count, is.seats))) at.moment at.leaves,
+              (all_at_moment registry_run.made registry_run.registry (registry_sights registry_run) at.cell at.moment (omega (arith, seats, count, is.seats))) at.moment at.leaves,
         )
 
     pub registry_run_of : Found
