@@ -1,44 +1,16 @@
--- Gates that are laid aside and gathered again.
-use Rattle.std.proofs.Common.{◌≡◌, ℕ, suc, ◌-◌, ◌≤◌, List, [], ◌∷◌, ◌++◌, length, map, take, drop, refl, ◌∙◌, ap, arith, length-append, length-drop}
-use Rattle.std.specs.Prelude.{reverse}
-use Rattle.std.proofs.lemmas.List.{drop_at, length-map, length-reverse, length-take-le, reverse-reverse, take_at}
+-- Gates that come back from a hall's workers.
+use Rattle.std.proofs.Common.{◌≡◌, ◌∙◌, List, length, map}
 use Rattle.worker_pool.specs.declared.pool.Post.{Post}
+use Rattle.gate_crews.specs.Crews.{posts_of}
+use Rattle.gate_crews.proofs.Posted.{came_back as posts_back}
 use Rattle.delta_session.specs.Sessions.{WorkerView}
 use Rattle.delta_session.specs.Steps.{HallView, HallSight}
-use Rattle.delta_session.specs.Working.{posts_of}
-
-posted_length : {D G : Type 0} (hall : HallView D) (passes : List HallSight) (gates : List G) → length passes ≡ length gates
-    → length (posts_of hall passes gates) ≡ length gates
-posted_length hall [] [] same = refl
-posted_length hall [] (gate ∷ gates) same = absurd (omega (arith, same))
-posted_length hall (pass ∷ passes) [] same = absurd (omega (arith, same))
-posted_length hall (pass ∷ passes) (gate ∷ gates) same = ap (λ (n : ℕ). suc n) (posted_length hall passes gates (omega (arith, same)))
+use Rattle.delta_session.specs.Working.{workers_of}
+use Rattle.delta_session.proofs.Posts.{as_many_workers}
 
 -- as many gates come back as were posted
 pub came_back : {D G : Type 0} (hall : HallView D) (passes : List HallSight) (gates after : List G) (posts : List (Post G (WorkerView D)))
-    → length passes ≡ length gates → length posts ≡ length (posts_of hall passes gates) → after ≡ map (λ post. post.gate) posts
+    → length passes ≡ length gates → length posts ≡ length (posts_of (workers_of hall passes) gates) → after ≡ map (λ post. post.gate) posts
     → length after ≡ length gates
 came_back hall passes gates after posts same served are =
-    ap length are ∙ length-map posts (λ post. post.gate) ∙ served ∙ posted_length hall passes gates same
-
-module _ {G : Type 0} (gates worked all : List G) (workers : ℕ) (is : all ≡ worked ++ drop workers gates) (long : length worked ≡ workers) where
-  pub front : take workers all ≡ worked
-  front = ap (take workers) is ∙ take_at worked (drop workers gates) workers long
-
-  pub idle : drop workers all ≡ drop workers gates
-  idle = ap (drop workers) is ∙ drop_at worked (drop workers gates) workers long
-
-  pub count : workers ≤ length gates → length all ≡ length gates
-  count some = omega (arith, some, long, ap length is, length-append worked (drop workers gates), length-drop workers gates)
-
--- all gates, where the first ones worked and the others were laid aside
-pub gathered : {G : Type 0} (gates worked aside all : List G) (workers : ℕ) → all ≡ worked ++ reverse aside
-    → aside ≡ reverse (drop workers gates) → all ≡ worked ++ drop workers gates
-gathered {G} gates worked aside all workers is laid =
-    is ∙ ap (λ (l : List G). worked ++ reverse l) laid ∙ ap (λ (l : List G). worked ++ l) (reverse-reverse (drop workers gates))
-
-pub laid_length : {G : Type 0} (gates laid : List G) (workers : ℕ) → laid ≡ take workers gates → workers ≤ length gates → length laid ≡ workers
-laid_length gates laid workers is some = ap length is ∙ length-take-le workers gates some
-
-pub aside_length : {G : Type 0} (gates aside : List G) (workers : ℕ) → aside ≡ reverse (drop workers gates) → length aside ≡ length gates - workers
-aside_length gates aside workers is = ap length is ∙ length-reverse (drop workers gates) ∙ length-drop workers gates
+    posts_back (λ post. post.gate) (workers_of hall passes) gates posts after (as_many_workers hall passes ∙ same) served are ∙ as_many_workers hall passes ∙ same

@@ -2,6 +2,4 @@ mod Asking
 mod Counted
 mod Gathered
 mod Halls
-mod Places
-mod Risen
 mod Shelving

@@ -11,6 +11,7 @@ use Rattle.slot_checks.specs.declared.fault.CheckFault.{CheckFault}
 use Rattle.slot_checks.specs.declared.fault.CheckFault.TheVariants as checks
 use Rattle.slot_checks.specs.declared.marker.TheConstants.{FILES_MARKER}
 use Rattle.worker_pool.specs.declared.gate.Gate.{Ghosts as GateGhosts}
+use Rattle.gate_crews.specs.Gates.{HaveFailed}
 use Rattle.command_tables.specs.Channels.{Channel, IsSilent}
 use Rattle.command_tables.specs.Markers.{SeesNoMark, StopsAtMark}
 use Rattle.command_tables.specs.Refusals.{ReportsRefusal}
@@ -23,7 +24,6 @@ use Rattle.delta_session.specs.Steps.{HallView, HallSight}
 use Rattle.delta_session.specs.declared.fault.HallFault.{HallFault}
 use Rattle.delta_session.specs.declared.fault.HallFault.TheVariants as halls
 use Rattle.delta_server.specs.Files.{ArePutBack, IsWithinSaid}
-use Rattle.delta_server.specs.Gates.{HaveFailed}
 use Rattle.delta_server.specs.Serving.{AreDisksAsked, IsHallOver, HasServed}
 use Rattle.command_tables.specs.Views.{ShelfView}
 use Rattle.delta_server.specs.Words.{AsksToServe, RefusesToServe}

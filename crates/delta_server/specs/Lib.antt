@@ -1,5 +1,4 @@
 pub mod Ends
 pub mod Files
-pub mod Gates
 pub mod Serving
 pub mod Words

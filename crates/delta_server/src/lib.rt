@@ -6,7 +6,6 @@
 #![tactic(auto)]
 
 mod files;
-mod gates;
 mod opening;
 mod server;
 mod words;

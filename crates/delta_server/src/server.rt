@@ -3,19 +3,19 @@ ghost use Rattle.std.specs.Prelude.{◌≡◌, ◌⊎◌, ◌≤◌, IfErr, IsEr
 ghost use Rattle.slot_checks.specs.declared.marker.TheConstants.{FILES_MARKER};
 ghost use Rattle.command_tables.specs.Markers.{StopsAtMark, Unmarked};
 ghost use Rattle.command_tables.specs.Channels.{words_of};
+ghost use Rattle.gate_crews.specs.Gates.{HaveFailed};
 ghost use Rattle.delta_server.specs.Ends.{AnswersServe, FailsServe, StopsServe};
-ghost use Rattle.delta_server.specs.Gates.{HaveFailed};
 ghost use Rattle.delta_server.specs.Serving.{HasServed};
 ghost use Rattle.command_tables.specs.Views.{output_view, shelf_view};
 
 use crate::files::put_back;
-use crate::gates::{counts, gather, have_failed, lay_aside};
 use crate::opening::open;
 use crate::words::{MOST_WORKERS, Serve, read_serve};
 use command_tables::{Refusal, report};
 use delta_base::{Link, Sink};
 use delta_session::serve_gates;
 use disk_model::Shelf;
+use gate_crews::{counts, gather, have_failed, lay_aside};
 use slot_checks::{FILES_MARKER, check_marker};
 use std::alloc::Global;
 use std::sync::Wait;

@@ -22,11 +22,13 @@ use Rattle.shared_registry.proofs.Adding.{gives}
 use Rattle.hall_logs.specs.Slots.{OnSlot}
 use Rattle.hall_logs.specs.Visits.{IsVisit}
 use Rattle.hall_logs.proofs.Visiting.{each_is_visit}
-use Rattle.delta_session.specs.Answered.{BehindLookup, ByLog, ByRegistry, BySource, ByText, IsLookedUp, LooksUp, Says, SaysNone, SaysOf, TakesNoNumber, reply_found}
+use Rattle.call_replies.specs.Says.{Says, SaysOf}
+use Rattle.call_replies.specs.Telling.{append_answer, log_answer}
+use Rattle.delta_session.specs.Answered.{BehindLookup, ByLog, ByRegistry, BySource, ByText, IsLookedUp, LooksUp, SaysNone, TakesNoNumber, reply_found}
 use Rattle.delta_session.specs.Halls.{IsHallPass}
 use Rattle.delta_session.specs.Steps.{HallView, HallSight, Step, of_registry, of_log, AreSteps}
 use Rattle.rpc_answers.specs.declared.answer.Answer.{Answer}
-use Rattle.delta_session.specs.Telling.{append_answer, registry_answer, log_answer}
+use Rattle.delta_session.specs.Telling.{registry_answer}
 use Rattle.delta_session.proofs.Passing.{still_ready}
 use Rattle.delta_session.proofs.Stepping.{compose_steps}
 

@@ -1,18 +1,12 @@
 -- How many replies tell a fault of a disk, and how the pass's own count rose.
-use Rattle.std.proofs.Common.{◌≡◌, ℕ, zero, suc, ◌+◌, ◌≤◌, ◌==◌, min, Bool, false, if◌then◌else◌, List, [], ◌∷◌, ◌++◌, Option, Some, None, Ok, Err, refl, sym, ap, ◌∙◌, subst, ⊎_elim, arith, slice_get}
+use Rattle.std.proofs.Common.{◌≡◌, ℕ, zero, suc, ◌+◌, ◌≤◌, ◌==◌, min, false, List, [], ◌∷◌, ◌++◌, Option, Some, None, Ok, Err, refl, sym, ap, ◌∙◌, subst, ⊎_elim, arith, slice_get}
 use Rattle.std.specs.Prelude.{slice_set, sum_by}
 use Rattle.std.proofs.lemmas.List.Sums.{sum_by-cons}
 use Rattle.delta_base.specs.Outside.{RoseBy}
 use Rattle.disk_model.specs.declared.disk.Disk.{Ghosts}
-use Rattle.chain_core.specs.Replies.{LogCall, LogReply, answered, found, missing, described, counted}
-use Rattle.chain_core.specs.declared.answer.LogAnswer.TheVariants as appended
+use Rattle.chain_core.specs.Replies.{LogCall}
 use Rattle.http_session.specs.Output.{Exchange}
 use Rattle.http_session.specs.declared.answerer.Said.{Said}
-use Rattle.http_session.specs.declared.answerer.Said.TheVariants.{Reply, OutOfMemory}
-use Rattle.patch_meaning.specs.declared.fault.PatchFault.{PatchFault}
-use Rattle.patch_meaning.specs.declared.fault.PatchFault.TheVariants as fault
-use Rattle.patch_log.specs.declared.run.RunFault.{RunFault}
-use Rattle.patch_log.specs.declared.run.RunFault.TheVariants as run
 use Rattle.registry_core.specs.Replies as registry
 use Rattle.registry_core.specs.declared.answer.CreateAnswer.TheVariants as created
 use Rattle.registry_core.specs.declared.answer.ChangeAnswer.TheVariants as changed
@@ -20,7 +14,7 @@ use Rattle.rpc_answers.specs.Answers.{status_of}
 use Rattle.rpc_answers.specs.declared.answer.Answer.{Answer}
 use Rattle.rpc_answers.specs.declared.answer.Answer.TheVariants.{NoSource, Pong}
 use Rattle.rpc_calls.specs.Calls.{call_of}
-use Rattle.rpc_calls.specs.Outcomes.{CallOutcome, CallRefusal, no_route, media, bad_json, bad_method, bad_call}
+use Rattle.rpc_calls.specs.Outcomes.{CallOutcome}
 use Rattle.rpc_calls.specs.declared.call.Call.{Call}
 use Rattle.rpc_calls.specs.declared.call.Call.TheVariants as call
 use Rattle.turn_cell.specs.Calls.{faults_told}
@@ -32,34 +26,22 @@ use Rattle.shared_log.proofs.Adding as of_logs
 use Rattle.shared_registry.specs.History.{RegistrySight}
 use Rattle.shared_registry.specs.Lookups.{is_registry_fault}
 use Rattle.shared_registry.proofs.Adding as of_registries
-use Rattle.delta_session.specs.Answered.{Says, SaysOf, BehindLookup, ByRegistry, BySource, BySlot, ByLog, ByText, ComesTo, IsSaidTo}
+use Rattle.call_replies.specs.Faults.{is_fault_said, faults_said}
+use Rattle.call_replies.specs.Says.{SaysOf}
+use Rattle.call_replies.specs.Telling.{patch_answer, run_answer, refusal_answer}
+use Rattle.call_replies.proofs.Faulting.{one_if, no_patch_fault, no_run_fault, no_refusal_fault, said_as, nothing_told, said_of_log}
+use Rattle.delta_session.specs.Answered.{BehindLookup, ByRegistry, BySource, BySlot, ByLog, ByText, ComesTo, IsSaidTo}
 use Rattle.delta_session.specs.Asking.{asking_of}
 use Rattle.delta_session.specs.declared.logs.SlotCall.{SlotCall}
 use Rattle.delta_session.specs.declared.logs.SlotCall.TheVariants.{Describe, Version, Append, AppendRun, FetchVersion, FetchId}
-use Rattle.delta_session.specs.Faults.{faults_of_step, faults_of, is_fault_said, faults_said}
+use Rattle.delta_session.specs.Faults.{faults_of_step, faults_of}
 use Rattle.delta_session.specs.Halls.{all_hall_faults}
 use Rattle.delta_session.specs.Sessions.{AreSaid, all_of}
 use Rattle.delta_session.specs.Steps.{HallView, Lists, Step, of_registry, of_log, IsStep, AreSteps}
-use Rattle.delta_session.specs.Telling.{registry_answer, log_answer, patch_answer, run_answer, refusal_answer}
+use Rattle.delta_session.specs.Telling.{registry_answer}
 use Rattle.delta_session.proofs.Stepping.{lookups_taken}
 
 -- ---- which answers have the status of a fault
-
-abbrev one_if : Bool → ℕ
-one_if b = if b then 1 else 0
-
-log_fault : (reply : LogReply) → (status_of (log_answer reply) == 500) ≡ tells_fault reply
-log_fault (answered (appended.Accepted version)) = refl
-log_fault (answered (appended.AcceptedRun first version)) = refl
-log_fault (answered (appended.Known version same)) = refl
-log_fault (answered (appended.Conflict version head named)) = refl
-log_fault (answered (appended.Full what have limit)) = refl
-log_fault (answered appended.DiskFault) = refl
-log_fault (answered appended.OutOfMemory) = refl
-log_fault (found patch) = refl
-log_fault (missing version) = refl
-log_fault (described version head) = refl
-log_fault (counted version) = refl
 
 registry_fault : (reply : registry.RegistryReply) → (status_of (registry_answer reply) == 500) ≡ is_registry_fault reply
 registry_fault (registry.answered (created.Made source)) = refl
@@ -81,40 +63,11 @@ registry_fault (registry.found None) = refl
 registry_fault (registry.found (Some source)) = refl
 registry_fault (registry.listed sources) = refl
 
-no_patch_fault : (f : PatchFault) → (status_of (patch_answer f) == 500) ≡ false
-no_patch_fault (fault.At at kind) = refl
-no_patch_fault (fault.TooLong long limit) = refl
-no_patch_fault fault.OutOfMemory = refl
-
-no_run_fault : (f : RunFault) → (status_of (run_answer f) == 500) ≡ false
-no_run_fault (run.TooLong long limit) = refl
-no_run_fault (run.Patch why) = no_patch_fault why
-no_run_fault (run.BadRun at) = refl
-no_run_fault run.OutOfMemory = refl
-
-no_refusal_fault : (r : CallRefusal) → (status_of (refusal_answer r) == 500) ≡ false
-no_refusal_fault no_route = refl
-no_refusal_fault media = refl
-no_refusal_fault bad_json = refl
-no_refusal_fault (bad_method methods) = refl
-no_refusal_fault (bad_call member) = refl
-
 -- ---- what is said of one request
-
-said_as : (answer : Answer) (methods : Option (List ℕ)) (said : Said) (b : Bool) → Says answer methods said → (status_of answer == 500) ≡ b → one_if (is_fault_said said) ≤ one_if b
-said_as answer methods (Reply reply allow) b says is = let same = ap (λ (n : ℕ). n == 500) says.0.status ∙ is in subst (λ (c : Bool). one_if c ≤ one_if b) (sym same) (omega arith)
-said_as answer methods OutOfMemory b says is = omega arith
-
-nothing_said : (said : Said) → said ≡ OutOfMemory → one_if (is_fault_said said) ≤ 0
-nothing_said said is = subst (λ (s : Said). one_if (is_fault_said s) ≤ 0) (sym is) (omega arith)
-
-said_of_log : (reply : Option LogReply) (said : Said) → SaysOf log_answer reply said → one_if (is_fault_said said) ≤ faults_told tells_fault reply
-said_of_log (Some reply) said says = said_as (log_answer reply) None said (tells_fault reply) says (log_fault reply)
-said_of_log None said says = nothing_said said says
 
 said_of_registry : (reply : Option registry.RegistryReply) (said : Said) → SaysOf registry_answer reply said → one_if (is_fault_said said) ≤ faults_told is_registry_fault reply
 said_of_registry (Some reply) said says = said_as (registry_answer reply) None said (is_registry_fault reply) says (registry_fault reply)
-said_of_registry None said says = nothing_said said says
+said_of_registry None said says = nothing_told said says
 
 by_log : (slot : ℕ) (call : LogCall) (steps : List Step) (said : Said) → ByLog slot call steps said → one_if (is_fault_said said) ≤ faults_of steps
 by_log slot call steps said by = subst (λ (l : List Step). one_if (is_fault_said said) ≤ faults_of l) (sym by.2) (let s = said_of_log by.0.reply said by.3 in omega (arith, s))
@@ -122,7 +75,7 @@ by_log slot call steps said by = subst (λ (l : List Step). one_if (is_fault_sai
 by_text : {A F : Type 0} (Is : A → Type 0) (call : A → LogCall) (Has : F → Type 0) (answer : F → Answer) → ((f : F) → (status_of (answer f) == 500) ≡ false) → (slot : ℕ) (steps : List Step) (said : Said) → ByText Is call Has answer slot steps said → one_if (is_fault_said said) ≤ faults_of steps
 by_text Is call Has answer none slot steps said by = ⊎_elim
     (λ z. by_log slot _ steps said z.2)
-    (λ z. ⊎_elim (λ f. let s = said_as (answer f.0) None said false f.3 (none f.0) in omega (arith, s)) (λ w. let s = nothing_said said w.1 in omega (arith, s)) z) by
+    (λ z. ⊎_elim (λ f. let s = said_as (answer f.0) None said false f.3 (none f.0) in omega (arith, s)) (λ w. let s = nothing_told said w.1 in omega (arith, s)) z) by
 
 by_slot : (call : SlotCall) (slot : ℕ) (steps : List Step) (said : Said) → BySlot call slot steps said → one_if (is_fault_said said) ≤ faults_of steps
 by_slot Describe slot steps said by = by_log slot _ steps said by
@@ -138,7 +91,7 @@ behind call (Some (registry.found None)) rest said by = let s = said_as NoSource
 behind call (Some (registry.answered made)) rest said by = absurd by
 behind call (Some (registry.changed done)) rest said by = absurd by
 behind call (Some (registry.listed sources)) rest said by = absurd by
-behind call None rest said by = let s = nothing_said said by.1 in omega (arith, s)
+behind call None rest said by = let s = nothing_told said by.1 in omega (arith, s)
 
 by_registry : (call : registry.RegistryCall) (steps : List Step) (said : Said) → ByRegistry call steps said → one_if (is_fault_said said) ≤ faults_of steps
 by_registry call steps said by = subst (λ (l : List Step). one_if (is_fault_said said) ≤ faults_of l) (sym by.2) (let s = said_of_registry by.0.reply said by.3 in omega (arith, s))
@@ -164,7 +117,7 @@ comes dice (call.AppendRun name text) steps said by = by_source name (AppendRun 
 
 one_said : (dice : ℕ) (outcome : CallOutcome) (steps : List Step) (said : Said) (next : ℕ) → IsSaidTo dice outcome steps said next → one_if (is_fault_said said) ≤ faults_of steps
 one_said dice (Err refusal) steps said next is = let s = said_as (refusal_answer refusal) _ said false is.1 (no_refusal_fault refusal) in omega (arith, s)
-one_said dice (Ok call) steps said next is = ⊎_elim (λ z. comes dice call steps said z.0) (λ z. let s = nothing_said said z.1 in omega (arith, s)) is
+one_said dice (Ok call) steps said next is = ⊎_elim (λ z. comes dice call steps said z.0) (λ z. let s = nothing_told said z.1 in omega (arith, s)) is
 
 faults_append : (a b : List Step) → faults_of (a ++ b) ≡ faults_of a + faults_of b
 faults_append [] b = omega arith

@@ -9,9 +9,10 @@ use Rattle.turn_cell.specs.Turns.{AllOf}
 use Rattle.worker_pool.specs.Works.{AllServed, Served, Works as AreWorked}
 use Rattle.worker_pool.specs.declared.gate.Arrival.{Arrival}
 use Rattle.worker_pool.specs.declared.pool.Post.{Post}
+use Rattle.gate_crews.specs.Crews.{posts_of, workers_at}
 use Rattle.delta_session.specs.Sessions.{HasAsked, WorkerView, WorksSession, all_of}
 use Rattle.delta_session.specs.Steps.{HallView, HallSight, AreSteps}
-use Rattle.delta_session.specs.Working.{posts_of}
+use Rattle.delta_session.specs.Working.{workers_of}
 use Rattle.delta_session.proofs.Said.{steps_said}
 use Rattle.delta_session.proofs.Stepping.{compose_steps}
 
@@ -20,30 +21,34 @@ module _ {A : Type 0} (P : A → Type 0) where
   all_but_last [] x all = tt
   all_but_last (y ∷ xs) x all = (all.0, all_but_last xs x all.1)
 
-module _ {D G : Type 0} (hall : HallView D) where
-  abbrev pub at_gate : HallSight → G → Post G (WorkerView D)
-  at_gate pass gate = record { gate = gate; worker = record { hall = hall; pass = pass } }
+module _ {D : Type 0} (hall : HallView D) where
+  abbrev pub worker_of : HallSight → WorkerView D
+  worker_of pass = record { hall = hall; pass = pass }
 
-  posted_more : (passes : List HallSight) (gates : List G) (pass : HallSight) (gate : G) → length passes ≡ length gates
-      → posts_of hall (passes ++ pass ∷ []) (gates ++ gate ∷ []) ≡ posts_of hall passes gates ++ at_gate pass gate ∷ []
-  posted_more [] [] pass gate same = refl
-  posted_more [] (y ∷ gates) pass gate same = absurd (omega (arith, same))
-  posted_more (x ∷ passes) [] pass gate same = absurd (omega (arith, same))
-  posted_more (x ∷ passes) (y ∷ gates) pass gate same = ap (λ (l : List (Post G (WorkerView D))). at_gate x y ∷ l) (posted_more passes gates pass gate (omega (arith, same)))
+  workers_more : (passes : List HallSight) (pass : HallSight) → workers_of hall (passes ++ pass ∷ []) ≡ workers_of hall passes ++ worker_of pass ∷ []
+  workers_more [] pass = refl
+  workers_more (x ∷ passes) pass = ap (λ (l : List (WorkerView D)). worker_of x ∷ l) (workers_more passes pass)
 
-  -- the last pass stands at the last gate, behind the others in reverse
-  pub posts_one : (all : List (Post G (WorkerView D))) (passes rest : List HallSight) (gates others : List G) (posts : List (Post G (WorkerView D))) (pass : HallSight) (gate : G)
-      → all ≡ posts_of hall passes gates ++ reverse posts → passes ≡ rest ++ pass ∷ [] → gates ≡ others ++ gate ∷ [] → length rest ≡ length others
-      → all ≡ posts_of hall rest others ++ reverse (posts ++ at_gate pass gate ∷ [])
-  posts_one all passes rest gates others posts pass gate is popped taken same =
-      is ∙ (λ i. posts_of hall (popped i) (taken i) ++ reverse posts) ∙ ap (λ (l : List (Post G (WorkerView D))). l ++ reverse posts) (posted_more rest others pass gate same)
-      ∙ append_assoc (posts_of hall rest others) (at_gate pass gate ∷ []) (reverse posts) ∙ ap (λ (l : List (Post G (WorkerView D))). posts_of hall rest others ++ l) (sym (reverse-append posts (at_gate pass gate ∷ [])))
+  -- the worker of the last pass stands behind the others in reverse
+  pub workers_one : (all : List (WorkerView D)) (passes rest : List HallSight) (workers : List (WorkerView D)) (pass : HallSight) → all ≡ workers_of hall passes ++ reverse workers → passes ≡ rest ++ pass ∷ []
+      → all ≡ workers_of hall rest ++ reverse (workers ++ worker_of pass ∷ [])
+  workers_one all passes rest workers pass is popped =
+      is ∙ (λ i. workers_of hall (popped i) ++ reverse workers) ∙ ap (λ (l : List (WorkerView D)). l ++ reverse workers) (workers_more rest pass)
+      ∙ append_assoc (workers_of hall rest) (worker_of pass ∷ []) (reverse workers) ∙ ap (λ (l : List (WorkerView D)). workers_of hall rest ++ l) (sym (reverse-append workers (worker_of pass ∷ [])))
 
-  pub posted_length : (passes : List HallSight) (gates : List G) → length passes ≡ length gates → length (posts_of hall passes gates) ≡ length passes
-  posted_length [] [] same = refl
-  posted_length [] (y ∷ gates) same = absurd (omega (arith, same))
-  posted_length (x ∷ passes) [] same = absurd (omega (arith, same))
-  posted_length (x ∷ passes) (y ∷ gates) same = ap (λ (n : ℕ). suc n) (posted_length passes gates (omega (arith, same)))
+  -- as many workers as passes, each with its own
+  pub as_many_workers : (passes : List HallSight) → length (workers_of hall passes) ≡ length passes
+  as_many_workers [] = refl
+  as_many_workers (x ∷ passes) = ap (λ (n : ℕ). suc n) (as_many_workers passes)
+
+  pub passes_again : (passes : List HallSight) → map (λ (worker : WorkerView D). worker.pass) (workers_of hall passes) ≡ passes
+  passes_again [] = refl
+  passes_again (x ∷ passes) = ap (λ (l : List HallSight). x ∷ l) (passes_again passes)
+
+-- the passes of the workers at their posts
+pub passes_at : {D G : Type 0} (posts : List (Post G (WorkerView D))) → map (λ (worker : WorkerView D). worker.pass) (workers_at posts) ≡ map (λ (post : Post G (WorkerView D)). post.worker.pass) posts
+passes_at [] = refl
+passes_at (z ∷ posts) = ap (λ (l : List HallSight). z.worker.pass ∷ l) (passes_at posts)
 
 module _ {D L : Type 0} (disks : Ghosts D) (links : LinkGhosts L) (hall : HallView D) where
   -- works one after another are steps of one pass of that hall
@@ -62,8 +67,8 @@ module _ {D L : Type 0} (disks : Ghosts D) (links : LinkGhosts L) (hall : HallVi
       (all_of said.0 ++ rest.0, compose_steps disks hall first.pass.lists next.pass.lists last.pass.lists (all_of said.0) rest.0 steps rest.1)
 
   module _ {G : Type 0} (tells : Type 0) (arrivals : G → List (Arrival L)) (back : G → List L) (faults : G → ℕ) where
-    all_asked : (passes : List HallSight) (gates : List G) (posts : List (Post G (WorkerView D))) → length passes ≡ length gates → length posts ≡ length (posts_of hall passes gates)
-        → ((k : ℕ) (d : Post G (WorkerView D)) → k < length (posts_of hall passes gates) → Served tells arrivals back faults (WorksSession disks links) (slice_index_or (posts_of hall passes gates) k d) (slice_index_or posts k d))
+    all_asked : (passes : List HallSight) (gates : List G) (posts : List (Post G (WorkerView D))) → length passes ≡ length gates → length posts ≡ length (posts_of (workers_of hall passes) gates)
+        → ((k : ℕ) (d : Post G (WorkerView D)) → k < length (posts_of (workers_of hall passes) gates) → Served tells arrivals back faults (WorksSession disks links) (slice_index_or (posts_of (workers_of hall passes) gates) k d) (slice_index_or posts k d))
         → AllZip (HasAsked disks hall) passes (map (λ (post : Post G (WorkerView D)). post.worker.pass) posts)
     all_asked [] [] [] same count each = tt
     all_asked [] [] (z ∷ posts) same count each = absurd (omega (arith, count))
@@ -72,10 +77,10 @@ module _ {D L : Type 0} (disks : Ghosts D) (links : LinkGhosts L) (hall : HallVi
     all_asked (x ∷ passes) (y ∷ gates) [] same count each = absurd (omega (arith, count))
     all_asked (x ∷ passes) (y ∷ gates) (z ∷ posts) same count each =
         let one = (each 0 z (omega arith)).serves in (
-          works_ask (at_gate hall x y).worker z.worker one.taken one.links refl one.worked,
+          works_ask (worker_of hall x) z.worker one.taken one.links refl one.worked,
           all_asked passes gates posts (omega (arith, same)) (omega (arith, count)) (λ k d low. each (suc k) d (omega (arith, low))),
         )
 
-    pub gates_asked : (passes : List HallSight) (gates : List G) (posts : List (Post G (WorkerView D))) → length passes ≡ length gates → AllServed tells arrivals back faults (WorksSession disks links) (posts_of hall passes gates) posts
+    pub gates_asked : (passes : List HallSight) (gates : List G) (posts : List (Post G (WorkerView D))) → length passes ≡ length gates → AllServed tells arrivals back faults (WorksSession disks links) (posts_of (workers_of hall passes) gates) posts
         → AllZip (HasAsked disks hall) passes (map (λ (post : Post G (WorkerView D)). post.worker.pass) posts)
     gates_asked passes gates posts same served = all_asked passes gates posts same served.0 served.1

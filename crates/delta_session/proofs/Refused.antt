@@ -1,5 +1,5 @@
 -- What is said to what is no call, no patch and no run.
-use Rattle.std.proofs.Common.{◌≡◌, ◌⊎◌, ℕ, refl, sym, subst, ⊎_elim, inl, inr, List, [], None, Ok, Err}
+use Rattle.std.proofs.Common.{◌≡◌, ◌⊎◌, ℕ, refl, ⊎_elim, inl, inr, List, [], None, Ok, Err}
 use Rattle.http_session.specs.declared.answerer.Said.{Said}
 use Rattle.http_session.specs.declared.answerer.Said.TheVariants.{OutOfMemory}
 use Rattle.chain_core.specs.Replies.{LogCall}
@@ -7,17 +7,14 @@ use Rattle.patch_log.specs.RunFaults.{HasRunFault}
 use Rattle.patch_log.specs.declared.run.RunFault.{RunFault}
 use Rattle.patch_log.specs.declared.run.RunFault.TheVariants as run
 use Rattle.rpc_answers.specs.declared.answer.Answer.{Answer}
-use Rattle.rpc_calls.specs.Outcomes.{CallOutcome, CallRefusal}
-use Rattle.delta_session.specs.Answered.{ByText, IsRunFault, IsSaidTo, Says}
-use Rattle.delta_session.specs.Telling.{refusal_answer, methods_told}
+use Rattle.rpc_calls.specs.Outcomes.{CallOutcome}
+use Rattle.call_replies.specs.Says.{Says, SaysRefusal}
+use Rattle.delta_session.specs.Answered.{ByText, IsRunFault, IsSaidTo}
 
--- memory ran out before the request was read
-pub nothing_said : (dice : ℕ) (outcome : CallOutcome) → IsSaidTo dice outcome [] OutOfMemory dice
-nothing_said dice (Ok call) = inr (refl, refl, refl)
-nothing_said dice (Err refusal) = (refl, tt, refl)
-
-pub refusal_said : (dice : ℕ) (outcome : CallOutcome) (refusal : CallRefusal) (said : Said) → outcome ≡ Err refusal → Says (refusal_answer refusal) (methods_told refusal) said → IsSaidTo dice outcome [] said dice
-refusal_said dice outcome refusal said is says = subst (λ (o : CallOutcome). IsSaidTo dice o [] said dice) (sym is) (refl, says, refl)
+-- it is refused without a step, and takes no number
+pub refused_said : (dice : ℕ) (outcome : CallOutcome) (said : Said) → SaysRefusal outcome said → IsSaidTo dice outcome [] said dice
+refused_said dice (Ok call) said is = inr (refl, is, refl)
+refused_said dice (Err refusal) said says = (refl, says, refl)
 
 -- the first fault of a text, or want of memory
 pub fault_said : {A F : Type 0} (Is : A → Type 0) (call : A → LogCall) (Has : F → Type 0) (answer : F → Answer) (slot : ℕ) (wanting why : F) (said : Said) → (why ≡ wanting → said ≡ OutOfMemory) → Says (answer why) None said → (why ≡ wanting) ⊎ Has why

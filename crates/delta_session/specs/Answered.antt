@@ -1,6 +1,5 @@
 -- How a hall answers a request: what it asks of its lists, and what it says.
 use Rattle.std.specs.Prelude.{◌≡◌, ◌≢◌, ◌⊎◌, ℕ, List, [], ◌∷◌, Option, Some, None, Result, Ok, Err}
-use Rattle.std.specs.Option.{option_copied}
 use Rattle.chain_core.specs.Replies.{LogCall, append, append_run, describe, version}
 use Rattle.chain_core.specs.Replies.{fetch_version, fetch_id}
 use Rattle.disk_model.specs.declared.disk.Disk.{Ghosts}
@@ -8,7 +7,7 @@ use Rattle.shared_log.specs.Calls.{CallOnLog}
 use Rattle.log_base.specs.declared.source_info.SourceInfo.{SourceInfo}
 use Rattle.http_heads.specs.declared.message.RawRequest.{RawRequest}
 use Rattle.http_session.specs.declared.answerer.Said.{Said}
-use Rattle.http_session.specs.declared.answerer.Said.TheVariants.{Reply, OutOfMemory}
+use Rattle.http_session.specs.declared.answerer.Said.TheVariants.{OutOfMemory}
 use Rattle.patch_log.specs.Log.{bare}
 use Rattle.patch_log.specs.Opening.{IsRunRead}
 use Rattle.patch_log.specs.RunFaults.{HasRunFault}
@@ -18,13 +17,15 @@ use Rattle.patch_meaning.specs.Checked.{CheckedPatch}
 use Rattle.patch_meaning.specs.Patch.{IsPatch, IsPatchFault}
 use Rattle.registry_core.specs.Replies.{RegistryCall, RegistryReply, resolve, found}
 use Rattle.registry_core.specs.Replies.{answered, changed, listed}
-use Rattle.rpc_answers.specs.Prints.{IsCompactPrintOf}
 use Rattle.rpc_answers.specs.declared.answer.Answer.{Answer}
 use Rattle.rpc_answers.specs.declared.answer.Answer.TheVariants.{NoSource}
 use Rattle.rpc_calls.specs.Calls.{call_of}
 use Rattle.rpc_calls.specs.Outcomes.{CallOutcome}
 use Rattle.rpc_calls.specs.declared.call.Call.{Call}
 use Rattle.shared_registry.specs.Lookups.{RegistryLookup}
+use Rattle.call_replies.specs.Says.{Says, SaysOf}
+use Rattle.call_replies.specs.Telling.{log_answer, patch_answer, run_answer}
+use Rattle.call_replies.specs.Telling.{refusal_answer, methods_told}
 use Rattle.delta_session.specs.declared.logs.SlotCall.{SlotCall}
 use Rattle.delta_session.specs.declared.logs.SlotCall.TheVariants.{Describe, Version}
 use Rattle.delta_session.specs.declared.logs.SlotCall.TheVariants.{FetchVersion, FetchId}
@@ -32,21 +33,7 @@ use Rattle.delta_session.specs.declared.logs.SlotCall.TheVariants.{Append, Appen
 use Rattle.delta_session.specs.Asking.{Asking, asks_nobody, asks_registry, asks_log}
 use Rattle.delta_session.specs.Asking.{asking_of, dice_behind, version_within}
 use Rattle.delta_session.specs.Steps.{HallView, HallSight, Step, of_registry, of_log, AreSteps}
-use Rattle.delta_session.specs.Telling.{registry_answer, log_answer, patch_answer, run_answer}
-use Rattle.delta_session.specs.Telling.{refusal_answer, methods_told}
-
--- ---- what is said
-
--- the answer's print, beside which these methods are told; or memory ran out in printing
-abbrev pub Says : Answer → Option (List ℕ) → Said → Type 0
-Says answer methods (Reply reply allow) =
-    IsCompactPrintOf reply answer reply.close × (option_copied allow ≡ methods)
-Says answer methods OutOfMemory = Unit {0}
-
--- the answer to a reply; without one memory ran out
-abbrev pub SaysOf : {R : Type 0} → (R → Answer) → Option R → Said → Type 0
-SaysOf answer (Some reply) said = Says (answer reply) None said
-SaysOf answer None said = said ≡ OutOfMemory
+use Rattle.delta_session.specs.Telling.{registry_answer}
 
 -- ---- what a call comes to
 

@@ -14,8 +14,9 @@ use Rattle.shared_log.specs.History.{LogSight}
 use Rattle.shared_registry.specs.Lookups.{RegistryAddsUp}
 use Rattle.shared_log.specs.Calls.{LogAddsUp}
 use Rattle.hall_logs.specs.Visits.{asked_at}
+use Rattle.call_replies.specs.Faults.{faults_said}
 use Rattle.delta_session.specs.Answered.{Answered, IsSaidTo}
-use Rattle.delta_session.specs.Faults.{faults_of, faults_said}
+use Rattle.delta_session.specs.Faults.{faults_of}
 use Rattle.delta_session.specs.Halls.{all_hall_faults}
 use Rattle.delta_session.specs.Kept.{KeepsWhatItTells}
 use Rattle.delta_session.specs.Steps.{HallView, HallSight, Step, AreSteps, lookups_of, visits_of}

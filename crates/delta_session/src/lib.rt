@@ -15,7 +15,6 @@ mod laws;
 mod logs;
 mod opening;
 mod pass;
-mod refusing;
 mod serving;
 mod session;
 mod sharing;

@@ -7,8 +7,7 @@ ghost use Rattle.delta_session.specs.Halls.{IsHallPass};
 
 use crate::hall::Hall;
 use crate::pass::HallPass;
-use crate::refusing::{say_fault, say_run_fault};
-use crate::telling::{append_answer, say, say_fetched};
+use call_replies::{append_answer, say, say_fault, say_fetched, say_run_fault};
 use delta_base::{Bytes, Id, Text};
 use disk_model::Disk;
 use http_session::Said;

@@ -9,7 +9,8 @@ ghost use Rattle.delta_session.specs.Halls.{IsHallPass};
 
 use crate::hall::Hall;
 use crate::pass::HallPass;
-use crate::telling::{change_answer, create_answer, say, say_found, say_listed};
+use crate::telling::{change_answer, create_answer, say_found, say_listed};
+use call_replies::say;
 use delta_base::{Id, OutOfMemory, Text};
 use disk_model::Disk;
 use http_session::Said;

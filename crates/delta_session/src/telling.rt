@@ -1,20 +1,16 @@
-//! Replies as answers, and answers as what is said.
+//! Replies of the registry as answers, and what is said of them.
 ghost use Rattle.std.specs.Prelude.{◌≡◌, None, IfOk, IsErr};
 ghost use Rattle.http_session.specs.Said.{IsPrintableSaid};
 ghost use Rattle.registry_core.specs.Replies as registry;
-ghost use Rattle.rpc_answers.specs.Answers.{NamesItsFault};
-ghost use Rattle.shared_log.specs.Replies.{reply_fetched};
-ghost use Rattle.delta_session.specs.Answered.{Says};
-ghost use Rattle.delta_session.specs.Telling.{append_answer, change_answer, create_answer};
-ghost use Rattle.delta_session.specs.Telling.{log_answer, registry_answer};
+ghost use Rattle.call_replies.specs.Says.{Says};
+ghost use Rattle.delta_session.specs.Telling.{change_answer, create_answer, registry_answer};
 
-use chain_core::LogAnswer;
+use call_replies::say;
 use delta_base::OutOfMemory;
 use http_session::Said;
 use log_base::{SourceInfo, Sources};
 use registry_core::{ChangeAnswer, CreateAnswer};
-use rpc_answers::{Answer, into_reply};
-use shared_log::Fetched;
+use rpc_answers::Answer;
 use std::alloc::Global;
 
 pub(crate) fn create_answer(answer: CreateAnswer) -> Answer
@@ -46,40 +42,6 @@ pub(crate) fn change_answer(answer: ChangeAnswer) -> Answer
     }
 }
 
-pub(crate) fn append_answer(answer: LogAnswer) -> Answer
-    ensures { result ≡ append_answer answer }
-{
-    match answer {
-        LogAnswer::Accepted { version } => Answer::Version { version },
-        LogAnswer::AcceptedRun { first, version } => Answer::Run { first, version },
-        LogAnswer::Known { version, same } => Answer::Known { version, same },
-        LogAnswer::Conflict {
-            version,
-            head,
-            prev_version,
-        } => Answer::Conflict {
-            version,
-            head,
-            prev_version,
-        },
-        LogAnswer::Full { what, have, limit } => Answer::Full { what, have, limit },
-        LogAnswer::DiskFault => Answer::DiskFault,
-        LogAnswer::OutOfMemory => Answer::OutOfMemory,
-    }
-}
-
-/// Says an answer.
-pub(crate) fn say(alloc: Global, answer: Answer) -> Said
-    requires { NamesItsFault answer }
-    ensures says { Says answer None result }
-    ensures printable { IsPrintableSaid result }
-{
-    match into_reply(alloc, answer, false) {
-        Ok(reply) => Said::Reply { reply, allow: None },
-        Err(_) => Said::OutOfMemory,
-    }
-}
-
 /// Says the source that was found.
 pub(crate) fn say_found(alloc: Global, found: Result<Option<SourceInfo>, OutOfMemory>) -> Said
     ensures says { IfOk found (λ reply. Says (registry_answer (registry.found reply)) None result) }
@@ -102,19 +64,6 @@ pub(crate) fn say_listed(alloc: Global, listed: Result<Sources, OutOfMemory>) ->
 {
     match listed {
         Ok(sources) => say(alloc, Answer::Sources(sources)),
-        Err(_) => Said::OutOfMemory,
-    }
-}
-
-/// Says the patch that was found.
-pub(crate) fn say_fetched(alloc: Global, fetched: Result<Fetched, OutOfMemory>) -> Said
-    ensures says { IfOk fetched (λ reply. Says (log_answer (reply_fetched reply)) None result) }
-    ensures want { IsErr fetched → result ≡ Said.OutOfMemory }
-    ensures printable { IsPrintableSaid result }
-{
-    match fetched {
-        Ok(Fetched::Found { patch }) => say(alloc, Answer::Patch { text: patch.text }),
-        Ok(Fetched::Missing { version }) => say(alloc, Answer::NoPatch { version }),
         Err(_) => Said::OutOfMemory,
     }
 }

@@ -1,3 +1,3 @@
 pub mod Gathered
-mod Posted
+pub mod Posted
 mod Risen

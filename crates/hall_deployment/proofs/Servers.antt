@@ -15,8 +15,9 @@ use Rattle.delta_session.specs.Ends.{IsEnded}
 use Rattle.delta_session.specs.Halls.{AreHallPasses, AreNewPasses}
 use Rattle.delta_session.specs.Sessions.{WorkerView, WorksSession, all_of}
 use Rattle.delta_session.specs.Steps.{HallView, HallSight, Lists, AreSteps}
-use Rattle.delta_session.specs.Working.{posts_of}
-use Rattle.delta_session.proofs.Posts.{at_gate}
+use Rattle.gate_crews.specs.Crews.{posts_of}
+use Rattle.delta_session.specs.Working.{workers_of}
+use Rattle.delta_session.proofs.Posts.{worker_of}
 use Rattle.delta_session.proofs.Said.{steps_said}
 use Rattle.delta_server.specs.Files.{HaveBegun}
 use Rattle.delta_server.specs.Serving.{IsHallOver, HasServed}
@@ -130,8 +131,8 @@ module _ {D H L G : Type 0} (disks : Ghosts D) (shelf : ShelfGhosts H D) (links 
       stepped : AllOf (HasStepped disks hall) passes
       are : AreWorkerRuns disks shelf links gate hall gates passes posts
 
-    pass_runs : (given : List HallSight) (gates : List G) (posts : List (Post G (WorkerView D))) → length given ≡ length gates → length posts ≡ length (posts_of hall given gates)
-        → ((k : ℕ) (d : Post G (WorkerView D)) → k < length (posts_of hall given gates) → Served gate.tells gate.arrivals gate.back gate.faults (WorksSession disks links) (slice_index_or (posts_of hall given gates) k d) (slice_index_or posts k d))
+    pass_runs : (given : List HallSight) (gates : List G) (posts : List (Post G (WorkerView D))) → length given ≡ length gates → length posts ≡ length (posts_of (workers_of hall given) gates)
+        → ((k : ℕ) (d : Post G (WorkerView D)) → k < length (posts_of (workers_of hall given) gates) → Served gate.tells gate.arrivals gate.back gate.faults (WorksSession disks links) (slice_index_or (posts_of (workers_of hall given) gates) k d) (slice_index_or posts k d))
         → PassRuns given gates posts
     pass_runs [] [] [] same count each = record { passes = []; given_is = refl; stopped_is = refl; in_none = tt; stepped = tt; are = tt }
     pass_runs [] [] (z ∷ posts) same count each = absurd (omega (arith, count))
@@ -140,7 +141,7 @@ module _ {D H L G : Type 0} (disks : Ghosts D) (shelf : ShelfGhosts H D) (links 
     pass_runs (x ∷ given) (y ∷ gates) [] same count each = absurd (omega (arith, count))
     pass_runs (x ∷ given) (y ∷ gates) (z ∷ posts) same count each =
         let one = (each 0 z (omega arith)).serves in
-        let seen = works_seen disks links hall (at_gate hall x y).worker one.taken z.worker one.links refl one.worked in
+        let seen = works_seen disks links hall (worker_of hall x) one.taken z.worker one.links refl one.worked in
         let rest = pass_runs given gates posts (omega (arith, same)) (omega (arith, count)) (λ k d low. each (suc k) d (omega (arith, low))) in
         record {
           passes = record { given = x; steps = seen.seen; in_step = None; at_stop = z.worker.pass } ∷ rest.passes;

@@ -2,7 +2,7 @@ use Rattle.std.proofs.Common.{inl, inr, List, map, take, refl, sym, ap, subst, â
 use Rattle.slot_checks.proofs.Steps.{all_kept}
 use Rattle.command_tables.specs.declared.refusal.Refusal.TheVariants as refusals
 use Rattle.delta_server.specs.Ends.{at_files, at_shelf}
-use Rattle.delta_server.specs.Gates.{HaveFailed}
+use Rattle.gate_crews.specs.Gates.{HaveFailed}
 use Rattle.delta_server.proofs.Shelving.{on_ok}
 use Rattle.delta_server.proofs.server.serve_files.Goals as goal
 

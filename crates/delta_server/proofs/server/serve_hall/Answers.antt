@@ -4,7 +4,8 @@ use Rattle.slot_checks.specs.Checks.{AreKept}
 use Rattle.command_tables.specs.declared.refusal.Refusal.TheVariants as refusals
 use Rattle.delta_session.specs.Working.{HasWorked}
 use Rattle.delta_server.specs.Ends.{at_files, at_shelf, at_workers}
-use Rattle.delta_server.proofs.Gathered.{came_back, gathered, laid_length, aside_length, front, idle, count}
+use Rattle.gate_crews.proofs.Gathered.{gathered, laid_length, aside_length, front, idle, count}
+use Rattle.delta_server.proofs.Gathered.{came_back}
 use Rattle.delta_server.proofs.Halls.{ended_length, ended_marked}
 use Rattle.delta_server.proofs.Shelving.{back_over}
 use Rattle.delta_server.proofs.server.serve_hall.Goals as goal

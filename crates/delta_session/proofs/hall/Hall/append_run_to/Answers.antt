@@ -3,9 +3,10 @@ use Rattle.patch_log.specs.declared.run.RunFault.TheVariants as fault
 use Rattle.rpc_answers.specs.declared.answer.Answer.{Answer}
 use Rattle.chain_core.specs.Replies.{append_run}
 use Rattle.patch_log.specs.Opening.{IsRunRead}
-use Rattle.delta_session.specs.Answered.{ByRun, IsRunFault, Says}
+use Rattle.call_replies.specs.Says.{Says}
+use Rattle.call_replies.specs.Telling.{run_answer}
+use Rattle.delta_session.specs.Answered.{ByRun, IsRunFault}
 use Rattle.delta_session.specs.Steps.{HallView, HallSight}
-use Rattle.delta_session.specs.Telling.{run_answer}
 use Rattle.delta_session.proofs.Asked.{takes_text, moved, ready_behind}
 use Rattle.delta_session.proofs.Refused.{fault_said, run_refused}
 use Rattle.delta_session.proofs.hall.Hall.append_run_to.Goals as goal

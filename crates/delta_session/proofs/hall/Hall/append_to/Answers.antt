@@ -3,9 +3,10 @@ use Rattle.patch_log.specs.Log.{bare}
 use Rattle.patch_meaning.specs.Patch.{IsPatchFault}
 use Rattle.patch_meaning.specs.declared.fault.PatchFault.TheVariants as fault
 use Rattle.rpc_answers.specs.declared.answer.Answer.{Answer}
-use Rattle.delta_session.specs.Answered.{ByPatch, IsPatchOf, Says, append_of}
+use Rattle.call_replies.specs.Says.{Says}
+use Rattle.call_replies.specs.Telling.{patch_answer}
+use Rattle.delta_session.specs.Answered.{ByPatch, IsPatchOf, append_of}
 use Rattle.delta_session.specs.Steps.{HallView, HallSight}
-use Rattle.delta_session.specs.Telling.{patch_answer}
 use Rattle.delta_session.proofs.Asked.{takes_text, moved, ready_behind}
 use Rattle.delta_session.proofs.Refused.{fault_said}
 use Rattle.delta_session.proofs.hall.Hall.append_to.Goals as goal

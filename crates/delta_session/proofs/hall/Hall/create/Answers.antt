@@ -1,6 +1,6 @@
 use Rattle.std.proofs.Common.{subst, Some, None}
 use Rattle.rpc_answers.specs.declared.answer.Answer.{Answer}
-use Rattle.delta_session.specs.Answered.{Says}
+use Rattle.call_replies.specs.Says.{Says}
 use Rattle.delta_session.specs.Answered.{ByRegistry}
 use Rattle.delta_session.specs.Steps.{HallView, HallSight}
 use Rattle.registry_core.specs.Replies as registry
