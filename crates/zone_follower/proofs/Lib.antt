@@ -1,0 +1,5 @@
+mod Running
+mod Staying
+mod Caused
+mod Others
+mod Brought
