@@ -1,5 +1,5 @@
 -- Followers: from what was told to what a zone holds.
-use Rattle.std.proofs.Common.{◌≡◌, ◌⊎◌, inl, inr, ⊎_elim, ℕ, zero, suc, ◌+◌, Bool, true, false, not, if◌then◌else◌, List, [], ◌∷◌, ◌++◌, length, map, Option, Some, None, Ok, Err, refl, sym, ◌∙◌, ap, subst, arith}
+use Rattle.std.proofs.Common.{◌≡◌, inl, inr, ⊎_elim, ℕ, zero, suc, ◌+◌, Bool, true, false, not, if◌then◌else◌, List, [], ◌∷◌, ◌++◌, length, map, Option, Some, None, Ok, Err, refl, sym, ◌∙◌, ap, subst, arith}
 use Rattle.std.specs.List.{AllByRecursion}
 use Rattle.std.specs.Prelude.{slice_get}
 use Rattle.std.proofs.lemmas.List.{map-append, length-map}
@@ -31,24 +31,24 @@ use Rattle.rpc_calls.specs.declared.call.Call.TheVariants as calls
 use Rattle.zone_files.specs.Generation.{number_of}
 use Rattle.zone_pairs.specs.Pair.{PairPoint, payloads_at, FileHolds, IsNextBrief, MayBeBeside, MayHoldPayloads, ZoneHolds, ZoneHoldsByRole}
 use Rattle.zone_pairs.proofs.OneZone.{one_zone}
-use Rattle.zone_pairs.proofs.Together.{with_none, without_new}
+use Rattle.zone_pairs.proofs.Together.{without_new}
 use Rattle.zone_state.specs.Brief.{brief_of, id_taken, with_patch}
 use Rattle.zone_state.specs.Zone.{ZoneView, DiskHolds, zone_number}
 use Rattle.zone_state.proofs.Growing.{brief-push}
 use Rattle.zone_state.proofs.Sound.{heads}
 use Rattle.paired_zone.specs.declared.answer.CheckEnd.{CheckEnd}
 use Rattle.paired_zone.specs.Checkpointing.{MakesCheckpoint, disk_in, point_made}
-use Rattle.paired_zone.specs.Zone.{PairedView, StandsAt, first_in, second_in}
+use Rattle.paired_zone.specs.Zone.{PairedView, first_in, second_in}
 use Rattle.follower.specs.declared.ends.SyncEnd.{SyncEnd}
 use Rattle.follower.specs.Calls.{calls_of}
 use Rattle.follower.specs.Chains.{HasTextAt, TextIsOf, TextsAreOf, FollowsChain, IsToldTexts}
-use Rattle.follower.specs.Footing.{Footing, one_file, two_files, DisksOf, PairDisks, Tells, of_pair, HasTaken, HoldsFront, PairHoldsFront}
+use Rattle.follower.specs.Footing.{Footing, one_file, two_files, DisksOf, PairDisks, Tells, of_pair, HoldsFront, PairHoldsFront}
 use Rattle.follower.proofs.Fronts.{checked_both, checked_front, shorter_prefix, follows_on}
 use Rattle.follower.proofs.Images.{leaves_fronts}
 use Rattle.world_core.proofs.Growing.{GrowsTo}
 use Rattle.deployment.specs.History.{ServerRun}
 use Rattle.deployment.specs.Promise.{KeepsPromise}
-use Rattle.deployment.specs.Followers.{WasTold, TextWasTold, Images, AreNew, OpensOn, MayLeaveImages, ZoneAct, catches_up, makes_checkpoint, zone_behind, ZoneRun, Acts, AreActs, CatchesUp, ChecksOn, StopsIn, IsZoneRun, AreZoneRuns, ReplaysFront, HoldFront, FollowsOn}
+use Rattle.deployment.specs.Followers.{WasTold, TextWasTold, Images, AreNew, OpensOn, MayLeaveImages, ZoneAct, catches_up, makes_checkpoint, zone_behind, ZoneRun, Acts, AreActs, CatchesUp, StopsIn, IsZoneRun, AreZoneRuns, ReplaysFront, HoldFront, FollowsOn}
 
 -- ---- the patches of a chain, as they are read
 
@@ -246,11 +246,14 @@ module _ {D : Type 0} (number : ℕ) (limits : LogLimits) (image : List ℕ) (ru
 
   -- it was opened on images
   opens : (on : Footing) (images : Images on) (zone : ZoneView (DisksOf on)) → InFront on images → OpensOn on images zone → Follows on zone
-  opens (one_file disks) image zone held is = (is.0, record {
-    stands = is.2;
-    begins = begins is.0 zone.doubt is.3 (held_front image is.0 is.2.without.checked is.1 held);
-    replayed = is.2.brief_is;
-  })
+  opens (one_file disks) image zone held is = (
+    is.0,
+    record {
+      stands = is.2;
+      begins = begins is.0 zone.doubt is.3 (held_front image is.0 is.2.without.checked is.1 held);
+      replayed = is.2.brief_is;
+    },
+  )
   opens (two_files disks) images zone held is =
       let brief : zone.brief ≡ brief_of held.0 = one_zone images.0 images.1 zone.brief (brief_of held.0) is.0 held.2 in
       (held.0, record { stands = (is.1, brief); begins = begins held.0 zone.doubt is.2 held.1; replayed = brief })
@@ -271,9 +274,12 @@ module _ {D : Type 0} (number : ℕ) (limits : LogLimits) (image : List ℕ) (ru
       let current = holds_now (disks.past zone.disk.current) (number_of point.second) (payloads_at point) point.doubt none (at.stands.on_current tells) (image_in second left) of_current in
       let beside = (starts (MayBeBeside point.second point.generation zone.brief) (disks.past zone.disk.other) (at.stands.on_other tells)).each (image_in (not second) left) of_other in
       let found = without_new point zone.brief at.stands.start_is at.stands.in_first at.stands.checked at.stands.take zone.limits point.doubt None (image_in second left) (image_in (not second) left) at.stands.doubtful current beside in
-      let same : found.0 ≡ brief_of held.0 = next_none found.1 none ∙ brief in
-      (held.0, held.1, in_files second left (brief_of held.0) (subst (λ (b : Brief). ZoneHoldsByRole second (image_in second left) (image_in (not second) left) b) same
-      (subst (λ (b : Bool). ZoneHoldsByRole b (image_in second left) (image_in (not second) left) found.0) at.second_is found.2)))
+      let same : found.0 ≡ brief_of held.0 = next_none found.1 none ∙ brief in (
+        held.0,
+        held.1,
+        in_files second left (brief_of held.0) (subst (λ (b : Brief). ZoneHoldsByRole second (image_in second left) (image_in (not second) left) b) same
+            (subst (λ (b : Bool). ZoneHoldsByRole b (image_in second left) (image_in (not second) left) found.0) at.second_is found.2)),
+      )
     where
       next_none : {brief next : Brief} {doubt : Option CheckedPatch} → IsNextBrief brief doubt None next → doubt ≡ None → next ≡ brief
       next_none (inl same) none = same
@@ -314,20 +320,22 @@ module _ {D : Type 0} (number : ℕ) (limits : LogLimits) (image : List ℕ) (ru
       let of_current = subst (λ (d : _). MayHaveLeft (disks.past old.disk.current) (disks.past d) (image_in second left)) (current_still disks second (of_pair new) same) roles.0 in
       let of_other = subst (λ (d : _). MayHaveLeft (disks.past old.disk.other) (disks.past d) (image_in (not second) left)) (other_still disks second (of_pair new) same) roles.1 in
       let held : PairHoldsFront second whole (image_in second left) (image_in (not second) left) =
-          leaves_fronts (two_files disks) old new whole taken took name said end (is_told (two_files disks) old new taken so name took said end act) tells (image_in second left) (image_in (not second) left) of_current of_other in
+      leaves_fronts (two_files disks) old new whole taken took name said end (is_told (two_files disks) old new taken so name took said end act) tells (image_in second left) (image_in (not second) left) of_current of_other in
       (held.0, held.1, in_files second left (brief_of held.0) held.2)
 
   -- a checkpoint
   module _ {Z : Type 0} (disks : Ghosts Z) (old new : ZoneView (PairDisks Z)) (taken : List CheckedPatch) (so : FollowsChain (two_files disks) whole old taken) (end : CheckEnd) (act : MakesCheckpoint disks (of_pair old) (of_pair new) end) where
     checked_still : Follows (two_files disks) new
     checked_still =
-        let brief : new.brief ≡ brief_of taken = act.brief ∙ so.replayed in
-        (taken, record {
-          stands = ((point_made end act.beside.point old.brief new.doubt, act.beside.stands), brief);
-          begins = ⊎_elim (λ (same : new.doubt ≡ old.doubt). subst (λ (doubt : Option CheckedPatch). IsPrefix (with_one_more taken doubt) whole) (sym same) so.begins)
-              (λ (none : new.doubt ≡ None). begins taken new.doubt none (without taken old.doubt so.begins)) act.doubt;
-          replayed = brief;
-        })
+        let brief : new.brief ≡ brief_of taken = act.brief ∙ so.replayed in (
+          taken,
+          record {
+            stands = ((point_made end act.beside.point old.brief new.doubt, act.beside.stands), brief);
+            begins = ⊎_elim (λ (same : new.doubt ≡ old.doubt). subst (λ (doubt : Option CheckedPatch). IsPrefix (with_one_more taken doubt) whole) (sym same) so.begins)
+                (λ (none : new.doubt ≡ None). begins taken new.doubt none (without taken old.doubt so.begins)) act.doubt;
+            replayed = brief;
+          },
+        )
 
     next_front : (doubt : Option CheckedPatch) (next : Brief) → doubt ≡ old.doubt → IsNextBrief old.brief doubt None next → (front : List CheckedPatch) × IsPrefix front whole × (next ≡ brief_of front)
     next_front doubt next same (inl is) = (taken, without taken old.doubt so.begins, is ∙ so.replayed)
@@ -344,9 +352,12 @@ module _ {D : Type 0} (number : ℕ) (limits : LogLimits) (image : List ℕ) (ru
         let current = (act.beside.on_current tells).each (image_in second left) roles.0 in
         let beside = (act.beside.on_other tells).each (image_in (not second) left) roles.1 in
         let found = without_new point old.brief at.stands.start_is at.stands.in_first at.stands.checked at.stands.take old.limits point.doubt None (image_in second left) (image_in (not second) left) at.stands.doubtful current beside in
-        let front = next_front point.doubt found.0 at.doubt_is found.1 in
-        (front.0, front.1, in_files second left (brief_of front.0) (subst (λ (b : Brief). ZoneHoldsByRole second (image_in second left) (image_in (not second) left) b) front.2
-        (subst (λ (b : Bool). ZoneHoldsByRole b (image_in second left) (image_in (not second) left) found.0) at.second_is found.2)))
+        let front = next_front point.doubt found.0 at.doubt_is found.1 in (
+          front.0,
+          front.1,
+          in_files second left (brief_of front.0) (subst (λ (b : Brief). ZoneHoldsByRole second (image_in second left) (image_in (not second) left) b) front.2
+              (subst (λ (b : Bool). ZoneHoldsByRole b (image_in second left) (image_in (not second) left) found.0) at.second_is found.2)),
+        )
 
   -- an act
   acts_on : (on : Footing) (old : ZoneView (DisksOf on)) (act : ZoneAct (DisksOf on)) → Follows on old → Acts on runs old act → Follows on (zone_behind act)
@@ -391,12 +402,14 @@ module _ {D : Type 0} (number : ℕ) (limits : LogLimits) (image : List ℕ) (ru
     follows : (images : Images on) (run : ZoneRun on) → InFront on images → IsZoneRun on runs images run → InFront on run.left × FollowsOn on (patches_in log) run
     follows images run held is =
         let opened = opens on images run.opened held is.opens in
-        let left = run_left on tells images run.opened run.acts run.left held is.opens is.acts is.stops in
-        (left, record {
-          opened = replays on tells run.opened opened;
-          each = each_replays on tells run.opened run.acts opened is.acts;
-          left = holds_front on run.left tells left;
-        })
+        let left = run_left on tells images run.opened run.acts run.left held is.opens is.acts is.stops in (
+          left,
+          record {
+            opened = replays on tells run.opened opened;
+            each = each_replays on tells run.opened run.acts opened is.acts;
+            left = holds_front on run.left tells left;
+          },
+        )
 
     each_follows : (images : Images on) (zone_runs : List (ZoneRun on)) (run : ZoneRun on) → InFront on images → AreZoneRuns on runs images zone_runs → IsIn run zone_runs → FollowsOn on (patches_in log) run
     each_follows images [] run held are i = absurd i
