@@ -1,5 +1,5 @@
 -- A log is asked behind a look-up of a name.
-use Rattle.std.proofs.Common.{◌≡◌, ◌⊎◌, ⊎_elim, ℕ, List, [], ◌∷◌, refl, sym, subst, Option, Some, None, Result, Ok, Err}
+use Rattle.std.proofs.Common.{◌≡◌, ⊎_elim, ℕ, List, [], ◌∷◌, refl, sym, subst, Option, Some, None, Ok, Err}
 use Rattle.chain_core.specs.Replies.{LogCall}
 use Rattle.log_base.specs.declared.source_info.SourceInfo.{SourceInfo}
 use Rattle.registry_core.specs.Replies.{RegistryReply, resolve, found, answered, changed, listed}
@@ -15,7 +15,7 @@ use Rattle.delta_session.specs.declared.logs.SlotCall.TheVariants.{Describe, Ver
 use Rattle.delta_session.specs.Answered.{ByLog, ByText, BySlot, BehindLookup, ComesTo, IsSaidTo}
 use Rattle.delta_session.specs.Asking.{Asking, asks_nobody, asks_registry, asks_log, asking_of}
 use Rattle.delta_session.specs.Sessions.{AreSaid}
-use Rattle.delta_session.specs.Steps.{Step, of_registry, of_log}
+use Rattle.delta_session.specs.Steps.{Step, of_registry}
 use Rattle.hall_deployment.specs.Laws.{AskByName}
 
 none_asked : (steps : List Step) → steps ≡ [] → AskByName steps

@@ -5,7 +5,6 @@ use Rattle.std.proofs.lemmas.List.{length-map}
 use Rattle.disk_model.specs.declared.disk.Disk.{Ghosts}
 use Rattle.disk_model.specs.Past.{began, MayLeave, Keeps}
 use Rattle.registry_core.specs.declared.event.Event.{Event}
-use Rattle.registry_core.specs.Replies.{RegistryCall}
 use Rattle.log_registry.specs.State.{StateView}
 use Rattle.turn_cell.specs.Turns.{AllOf}
 use Rattle.turn_cell.specs.Sights.{Made, AreAll}
@@ -13,8 +12,8 @@ use Rattle.turn_cell.specs.Sharing.{AreAllPassesOf, IsClosedOf}
 use Rattle.turn_cell.proofs.Moments.{all_there, fits_role}
 use Rattle.shared_registry.specs.History.{RegistrySight, shared_registry}
 use Rattle.shared_registry.specs.Moments.{RegistryCell, IsRegistryMoment}
-use Rattle.delta_session.specs.Ends.{IsEnded, EndsRegistry}
-use Rattle.delta_session.specs.Halls.{AreNewPasses, AreHallPasses}
+use Rattle.delta_session.specs.Ends.{IsEnded}
+use Rattle.delta_session.specs.Halls.{AreNewPasses}
 use Rattle.delta_session.specs.Opening.{IsOpenedHall, IsOpenedRegistry}
 use Rattle.delta_session.specs.Steps.{HallView, HallSight, Lists, Step, of_registry, of_log, IsStep}
 use Rattle.delta_session.proofs.Opens.{registry_passes}

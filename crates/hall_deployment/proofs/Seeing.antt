@@ -1,20 +1,14 @@
 -- Steps on many lists are calls on each log.
-use Rattle.std.proofs.Common.{◌≡◌, ◌≢◌, ℕ, zero, suc, ◌+◌, eq-eqb, ne_eqb, List, [], ◌∷◌, ◌++◌, map, refl, sym, ap, ◌∙◌, subst, arith, Option, Some, None, slice_get}
-use Rattle.std.specs.Prelude.{slice_set, if◌then◌else◌}
+use Rattle.std.proofs.Common.{◌≡◌, ◌≢◌, ℕ, ◌+◌, eq-eqb, ne_eqb, List, [], ◌∷◌, ◌++◌, map, refl, sym, ap, ◌∙◌, subst, Some, slice_get}
+use Rattle.std.specs.Prelude.{if◌then◌else◌}
 use Rattle.std.proofs.lemmas.List.{map-append}
 use mathlib.Core.Logic.{dite}
 use native.Mathlib.Decide.{ℕ_discrete}
 use Rattle.disk_model.specs.declared.disk.Disk.{Ghosts}
-use Rattle.chain_core.specs.Replies.{LogCall, append, append_run, fetch_version, fetch_id, describe, version, LogReply}
 use Rattle.patch_log.specs.State.{LogView}
 use Rattle.turn_cell.specs.Sights.{Made}
-use Rattle.turn_cell.specs.Calls.{IsReplied}
-use Rattle.turn_cell.specs.Sharing.{InTurn}
-use Rattle.shared_log.specs.History.{LogSight, KnowsWhole, SeesWhole, shared_log}
-use Rattle.shared_log.specs.Stays.{CalledOnLog}
-use Rattle.shared_log.specs.Calls.{CallOnLog, MayWant, AreCalledOnLog}
-use Rattle.shared_log.proofs.Histories.{whole_known}
-use Rattle.hall_logs.specs.Slots.{OnSlot}
+use Rattle.shared_log.specs.History.{LogSight}
+use Rattle.shared_log.specs.Calls.{CallOnLog, AreCalledOnLog}
 use Rattle.hall_logs.specs.Visits.{Visit, IsVisit, asked_at}
 use Rattle.hall_logs.proofs.Visiting.{here, asked_here}
 use Rattle.delta_session.specs.Sessions.{ServedSession}

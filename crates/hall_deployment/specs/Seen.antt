@@ -1,7 +1,7 @@
 -- What a pass of a hall did, step by step, and which calls that were on the registry and on the log
 -- of each slot.
 use Rattle.std.specs.Prelude.{◌≡◌, ℕ, ◌+◌, List, [], ◌∷◌, ◌++◌, map, slice_get}
-use Rattle.std.specs.Prelude.{Option, Some, None, if◌then◌else◌, ◌==◌}
+use Rattle.std.specs.Prelude.{Option, Some, if◌then◌else◌, ◌==◌}
 use Rattle.disk_model.specs.declared.disk.Disk.{Ghosts}
 use Rattle.chain_core.specs.Replies.{LogCall, LogReply}
 use Rattle.shared_log.specs.History.{LogSight}
