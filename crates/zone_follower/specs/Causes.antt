@@ -67,8 +67,8 @@ module _ {D : Type 0} (disks : Ghosts D) (origin : SharedZone D) (p : ZoneSight)
   abbrev pub GivesNext : CheckedPatch → Type 0
   GivesNext next = GivesPatch next × IsNextSeen origin.base origin.zone.limits next q
 
-  -- the zone lay in the turn with just the patches that the pass knows of, and the terms that it had
-  -- met and those of this patch are more than there are numbers
+  -- the zone lay in the turn with just the patches that the pass knows of, and the terms that it
+  -- had met and those of this patch are more than there are numbers
   pub record FoundTermsFull (next : CheckedPatch) : Type 0 where
     pub found : SharedZone D
     pub stands : ZoneStandsInTurn disks found

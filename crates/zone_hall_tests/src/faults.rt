@@ -24,8 +24,8 @@ const ALL: &[Reply] = &[
     Reply::Patch(3),
 ];
 
-/// How catching up ends for a pass, the zone's version as the other one is told then, and the faults
-/// of each.
+/// How catching up ends for a pass, the zone's version as the other one is told then, and the
+/// faults of each.
 type Told = (&'static str, u32, u64, u64);
 
 // Pass 1 catches up, and pass 2 looks.
