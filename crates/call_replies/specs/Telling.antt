@@ -1,5 +1,5 @@
 -- The answer that tells each reply of a log, each fault of a text and each refusal of a request.
-use Rattle.std.specs.Prelude.{ℕ, List, Option, Some, None}
+use Rattle.std.specs.Prelude.{ℕ, ◌^◌, List, Option, Some, None, nat_lt, if◌then◌else◌}
 use Rattle.chain_core.specs.Replies as log
 use Rattle.chain_core.specs.declared.answer.LogAnswer.{LogAnswer}
 use Rattle.chain_core.specs.declared.answer.LogAnswer.TheVariants as appended
@@ -11,6 +11,10 @@ use Rattle.patch_log.specs.declared.run.RunFault.TheVariants as run
 use Rattle.rpc_answers.specs.declared.answer.Answer.{Answer}
 use Rattle.rpc_answers.specs.declared.answer.Answer.TheVariants as answer
 use Rattle.rpc_calls.specs.Outcomes.{CallRefusal, no_route, media, bad_json, bad_method, bad_call}
+
+-- a version past 32 bits is one that no log has, as 0 is
+abbrev pub version_within : ℕ → ℕ
+version_within version = if nat_lt version (2 ^ 32) then version else 0
 
 abbrev pub append_answer : LogAnswer → Answer
 append_answer (appended.Accepted version) = answer.Version version

@@ -12,4 +12,4 @@ mod telling;
 
 pub use ends::{EndTold, say_end};
 pub use refusing::{refuse, say_fault, say_run_fault};
-pub use telling::{append_answer, say, say_fetched};
+pub use telling::{append_answer, say, say_fetched, version_within};

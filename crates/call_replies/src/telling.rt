@@ -4,7 +4,7 @@ ghost use Rattle.http_session.specs.Said.{IsPrintableSaid};
 ghost use Rattle.rpc_answers.specs.Answers.{NamesItsFault};
 ghost use Rattle.shared_log.specs.Replies.{reply_fetched};
 ghost use Rattle.call_replies.specs.Says.{Says};
-ghost use Rattle.call_replies.specs.Telling.{append_answer, log_answer};
+ghost use Rattle.call_replies.specs.Telling.{append_answer, log_answer, version_within};
 
 use chain_core::LogAnswer;
 use delta_base::OutOfMemory;
@@ -12,6 +12,13 @@ use http_session::Said;
 use rpc_answers::{Answer, into_reply};
 use shared_log::Fetched;
 use std::alloc::Global;
+
+/// The version, or 0 past 32 bits, since no log has either.
+pub fn version_within(version: u64) -> u32
+    ensures { result ≡ version_within version }
+{
+    u32::try_from(version).unwrap_or(0)
+}
 
 /// The answer to an append.
 pub fn append_answer(answer: LogAnswer) -> Answer

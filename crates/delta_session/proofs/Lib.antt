@@ -1,5 +1,4 @@
 pub mod Stepping
-pub mod Complete
 pub mod Keeping
 pub mod Faulting
 pub mod Said

@@ -25,13 +25,13 @@ use Rattle.rpc_calls.specs.declared.call.Call.{Call}
 use Rattle.shared_registry.specs.Lookups.{RegistryLookup}
 use Rattle.call_replies.specs.Says.{Says, SaysOf}
 use Rattle.call_replies.specs.Telling.{log_answer, patch_answer, run_answer}
-use Rattle.call_replies.specs.Telling.{refusal_answer, methods_told}
+use Rattle.call_replies.specs.Telling.{refusal_answer, methods_told, version_within}
 use Rattle.delta_session.specs.declared.logs.SlotCall.{SlotCall}
 use Rattle.delta_session.specs.declared.logs.SlotCall.TheVariants.{Describe, Version}
 use Rattle.delta_session.specs.declared.logs.SlotCall.TheVariants.{FetchVersion, FetchId}
 use Rattle.delta_session.specs.declared.logs.SlotCall.TheVariants.{Append, AppendRun}
 use Rattle.delta_session.specs.Asking.{Asking, asks_nobody, asks_registry, asks_log}
-use Rattle.delta_session.specs.Asking.{asking_of, dice_behind, version_within}
+use Rattle.delta_session.specs.Asking.{asking_of, dice_behind}
 use Rattle.delta_session.specs.Steps.{HallView, HallSight, Step, of_registry, of_log, AreSteps}
 use Rattle.delta_session.specs.Telling.{registry_answer}
 

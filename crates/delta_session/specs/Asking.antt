@@ -1,5 +1,5 @@
 -- What each call asks of a hall.
-use Rattle.std.specs.Prelude.{ℕ, ◌+◌, ◌%◌, ◌^◌, List, None, nat_lt, unwrap_or, if◌then◌else◌}
+use Rattle.std.specs.Prelude.{ℕ, ◌+◌, ◌%◌, ◌^◌, List, None, unwrap_or}
 use Rattle.delta_base.specs.Ids.{random_id}
 use Rattle.registry_core.specs.Replies as registry
 use Rattle.rpc_answers.specs.declared.answer.Answer.{Answer}
@@ -16,10 +16,6 @@ pub data Asking : Type 0 where
   asks_nobody : Answer → Asking
   asks_registry : registry.RegistryCall → Asking
   asks_log : List ℕ → SlotCall → Asking
-
--- a version past 32 bits is one that no log has, as 0 is
-abbrev pub version_within : ℕ → ℕ
-version_within version = if nat_lt version (2 ^ 32) then version else 0
 
 -- the number behind it; behind the last one of 128 bits comes 0
 abbrev pub next_dice : ℕ → ℕ

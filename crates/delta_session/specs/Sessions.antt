@@ -1,12 +1,11 @@
 -- What the answers of a session come to for the pass that serves it.
-use Rattle.std.specs.Prelude.{◌≡◌, ◌≢◌, ℕ, ◌+◌, ◌≤◌, List, [], ◌∷◌, ◌++◌, Some, slice_get}
-use Rattle.delta_base.specs.Outside.{Rose, RoseBy}
+use Rattle.std.specs.Prelude.{◌≡◌, ℕ, ◌+◌, ◌≤◌, List, [], ◌∷◌, ◌++◌, Some, slice_get}
+use Rattle.delta_base.specs.Outside.{RoseBy}
 use Rattle.delta_base.specs.declared.link.Link.{Ghosts as LinkGhosts}
 use Rattle.disk_model.specs.declared.disk.Disk.{Ghosts}
-use Rattle.http_session.specs.Output.{Exchange, output}
-use Rattle.http_session.specs.Talks.{TalksOn, IsDrained, Moment, moment_of}
+use Rattle.http_session.specs.Output.{Exchange}
+use Rattle.http_session.specs.Talks.{Conversed, Moment, moment_of}
 use Rattle.http_text.specs.declared.session.SessionEnd.{SessionEnd}
-use Rattle.http_text.specs.declared.session.SessionEnd.TheVariants.{LinkFault, OutOfMemory}
 use Rattle.patch_log.specs.State.{LogView}
 use Rattle.rpc_calls.specs.Calls.{call_of}
 use Rattle.turn_cell.specs.Sights.{Made}
@@ -62,21 +61,10 @@ abbrev pub HasAsked : {D : Type 0} → Ghosts D → HallView D → HallSight →
 HasAsked disks hall before after =
     (steps : List Step) × AreSteps disks hall before.lists steps after.lists
 
--- all replies were written, and what may follow them
-abbrev pub AnswersAll : List Exchange → List ℕ → Type 0
-AnswersAll exchanges written = (tail : List ℕ) × (written ≡ output exchanges ++ tail)
-
--- A connection was served: what was read and what was written of it, and why it ended. It has no
--- byte left where it was closed or cut short, and its link failed where that is told. So unless its
--- link failed or memory ran out, each request that was read was answered.
-pub record IsSession {D : Type 0} (disks : Ghosts D) (hall : HallView D)
-    (from to : Moment HallSight) (end : SessionEnd) : Type 0 where
-  pub talks : TalksOn (Answered disks hall) from to end
-  pub drained : IsDrained to.left end
-  pub failed : end ≡ LinkFault → Rose from.faults to.faults
-  pub complete :
-      (Rose from.faults to.faults → ⊥) → end ≢ OutOfMemory → AnswersAll talks.4.exchanges talks.1
-  pub never_falls : from.faults ≤ to.faults
+-- a connection was served by a pass of a hall
+abbrev pub IsSession : {D : Type 0} → Ghosts D → HallView D → Moment HallSight → Moment HallSight
+    → SessionEnd → Type 0
+IsSession disks hall = Conversed (Answered disks hall)
 
 -- a worker: the hall that it serves, and its pass
 pub record WorkerView (D : Type 0) : Type 0 where

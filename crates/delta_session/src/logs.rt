@@ -2,12 +2,11 @@
 ghost use Rattle.std.specs.Prelude.{◌≡◌, ◌<◌, ◌≤◌, length};
 ghost use Rattle.http_session.specs.Said.{IsPrintableSaid};
 ghost use Rattle.delta_session.specs.Answered.{ByPatch, ByRun, BySlot, BySource, TakesNoNumber};
-ghost use Rattle.delta_session.specs.Asking.{version_within};
 ghost use Rattle.delta_session.specs.Halls.{IsHallPass};
 
 use crate::hall::Hall;
 use crate::pass::HallPass;
-use call_replies::{append_answer, say, say_fault, say_fetched, say_run_fault};
+use call_replies::{append_answer, say, say_fault, say_fetched, say_run_fault, version_within};
 use delta_base::{Bytes, Id, Text};
 use disk_model::Disk;
 use http_session::Said;
@@ -32,13 +31,6 @@ pub enum SlotCall {
     Append(Bytes),
     /// To take the run of patches that a text is, all or none.
     AppendRun(Bytes),
-}
-
-// The version, or 0 past 32 bits, since no log has either.
-fn within(version: u64) -> u32
-    ensures { result ≡ version_within version }
-{
-    u32::try_from(version).unwrap_or(0)
 }
 
 impl<D: Disk> Hall<D> {
@@ -120,7 +112,7 @@ impl<D: Disk> Hall<D> {
             }
             SlotCall::FetchVersion(version) => say_fetched(
                 alloc,
-                logs.fetch_version(rt, &mut pass.logs, slot, within(version)),
+                logs.fetch_version(rt, &mut pass.logs, slot, version_within(version)),
             ),
             SlotCall::FetchId(id) => {
                 say_fetched(alloc, logs.fetch_id(rt, &mut pass.logs, slot, id))

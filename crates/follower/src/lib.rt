@@ -16,5 +16,5 @@ mod zones;
 
 pub use ends::{SyncEnd, TextRefusal};
 pub use laws::{catching_up_completes, ends_have_causes, followers_follow, runs_are_syncs};
-pub use syncing::sync;
+pub use syncing::{sync, sync_end};
 pub use zones::Follower;

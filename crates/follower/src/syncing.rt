@@ -46,8 +46,8 @@ fn end_of_refusal(refusal: TextRefusal) -> SyncEnd
     }
 }
 
-// The end of a run.
-fn sync_end(end: RunEnd<TextRefusal>) -> SyncEnd
+/// The end of a run, as that of catching up.
+pub fn sync_end(end: RunEnd<TextRefusal>) -> SyncEnd
     ensures { result ≡ of_run end }
 {
     match end {

@@ -8,6 +8,8 @@
 
 mod crew;
 mod gates;
+mod seat;
 
 pub use crew::{Crew, serve_crew};
 pub use gates::{counts, gather, have_failed, lay_aside};
+pub use seat::Seat;

@@ -1,7 +1,8 @@
 -- What a session has read and written when it ends, and why it ends.
-use Rattle.std.specs.Prelude.{◌≡◌, ◌⊎◌, ℕ, ◌<◌, true, false, List}
+use Rattle.std.specs.Prelude.{◌≡◌, ◌≢◌, ◌⊎◌, ℕ, ◌<◌, ◌≤◌, true, false, List}
 use Rattle.std.specs.Prelude.{[], ◌∷◌, ◌++◌, length, Option, All}
 use Rattle.std.specs.Io.KnownBytes.{Appends, Consumes, IsAtEnd}
+use Rattle.delta_base.specs.Outside.{Rose}
 use mathlib.Core.List.{IsPrefix}
 use Rattle.http_messages.specs.Messages.{AreMessages, BeginsWithGoodHead}
 use Rattle.http_messages.specs.Messages.{EndsAs, IsFrameFault, between, inside}
@@ -118,3 +119,19 @@ abbrev pub IsDrained : Option (List ℕ) → SessionEnd → Type 0
 IsDrained left Closed = IsAtEnd left
 IsDrained left CutShort = IsAtEnd left
 IsDrained left end = Unit {0}
+
+-- all replies were written, and what may follow them
+abbrev pub AnswersAll : List Exchange → List ℕ → Type 0
+AnswersAll exchanges written = (tail : List ℕ) × (written ≡ output exchanges ++ tail)
+
+-- A connection was served: what was read and what was written of it, and why it ended. It has no
+-- byte left where it was closed or cut short, and its link failed where that is told. So unless its
+-- link failed or memory ran out, each request that was read was answered.
+pub record Conversed {S : Type 0} (answers : S → RawRequest → Said → S → Type 0)
+    (from to : Moment S) (end : SessionEnd) : Type 0 where
+  pub talks : TalksOn answers from to end
+  pub drained : IsDrained to.left end
+  pub failed : end ≡ LinkFault → Rose from.faults to.faults
+  pub complete :
+      (Rose from.faults to.faults → ⊥) → end ≢ OutOfMemory → AnswersAll talks.4.exchanges talks.1
+  pub never_falls : from.faults ≤ to.faults

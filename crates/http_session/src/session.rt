@@ -8,7 +8,7 @@ ghost use Rattle.http_text.specs.Taken.{GaveRequests};
 ghost use Rattle.http_heads.specs.declared.message.Message.{Message};
 ghost use Rattle.http_session.specs.Said.{IsPrintableSaid, said_text};
 ghost use Rattle.http_session.specs.Output.{most_requests};
-ghost use Rattle.http_session.specs.Talks.{Moment, TalksOn, IsDrained, moment_of};
+ghost use Rattle.http_session.specs.Talks.{Conversed, Moment, moment_of};
 ghost use Rattle.http_session.specs.Stands.{AnsweredAll, AnswersAs, Ended, RefusesAs};
 ghost use Rattle.http_session.specs.Stands.{SessionStands, StopsSending, TellsAs, TookExpect};
 
@@ -231,12 +231,11 @@ pub fn converse<R: Wait, A: Answerer, L: Link>(
     link: &mut L,
 ) -> SessionEnd
     requires { A.ready answerer.now state.old }
-    ensures talks { TalksOn (A.answers answerer.now)
+
+    // What was read, what was written of it, and why it ended.
+    ensures conversed { Conversed (A.answers answerer.now)
         (moment_of state.old (L.left link.old) (L.sent link.old) (L.faults link.old))
         (moment_of state.new (L.left link.new) (L.sent link.new) (L.faults link.new)) result }
-    ensures drained { IsDrained (L.left link.new) result }
-    ensures failed { result ≡ SessionEnd.LinkFault → Rose (L.faults link.old) (L.faults link.new) }
-    ensures never_falls { L.faults link.old ≤ L.faults link.new }
     ensures ready { A.ready answerer.now state.new }
 {
     let mut reader = RequestReader::new(alloc);

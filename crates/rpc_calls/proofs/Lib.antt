@@ -6,3 +6,4 @@ mod RequestLemmas
 mod RouteLemmas
 mod RowLemmas
 mod SegmentLemmas
+mod ObjectLemmas

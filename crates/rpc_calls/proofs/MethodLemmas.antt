@@ -7,9 +7,10 @@ use Rattle.serde_json.specs.Find.{get}
 use Rattle.serde_json.specs.Read.{read}
 use Rattle.http_text.specs.Print.{IsAllow}
 use Rattle.http_heads.specs.declared.message.RawRequest.{RawRequest}
-use Rattle.rpc_calls.specs.Calls.{asked_by_route, asked_by, asked_by_value, got, or_bad_method, posted, unless_refused}
+use Rattle.rpc_calls.specs.Services.{object_in}
+use Rattle.rpc_calls.specs.Calls.{asked_by_route, asked_by, asked_in, got, or_bad_method, posted, unless_refused}
 use Rattle.rpc_calls.specs.Media.{has_refused_media}
-use Rattle.rpc_calls.specs.Operations.{Operation, asked_of, asked_on, id_member, given_id, operations, text_member, version_member, with_member}
+use Rattle.rpc_calls.specs.Operations.{Operation, asked, asked_of, asked_on, id_member, given_id, operations, text_member, version_member, with_member}
 use Rattle.rpc_calls.specs.Outcomes.{CallOutcome, no_route, media, bad_json, bad_method, bad_call, AnswersCall, IsFaultOf, TellsMethods}
 use Rattle.rpc_calls.specs.Surfaces.{IsMirrorCall}
 use Rattle.rpc_calls.specs.declared.call.Call.{Call}
@@ -150,18 +151,16 @@ by_word Mirror word value =
 
 -- ---- bodies
 
-by_value : (surface : Surface) (value : Option Data) → IsTold surface (asked_by_value surface value)
-by_value surface None = tt
-by_value surface (Some (object members)) =
-    member surface (codes "operation") (text_member (codes "operation") (object members)) (λ word. asked_on surface word (object members)) (λ word. by_word surface word (object members))
-by_value surface (Some null) = tt
-by_value surface (Some (boolean b)) = tt
-by_value surface (Some (number n)) = tt
-by_value surface (Some (string s)) = tt
-by_value surface (Some (array items)) = tt
+by_value : (surface : Surface) (value : Data) → IsTold surface (asked surface value)
+by_value surface value =
+    member surface (codes "operation") (text_member (codes "operation") value) (λ word. asked_on surface word value) (λ word. by_word surface word value)
+
+by_object : (surface : Surface) (value : Option Data) → IsTold surface (asked_in surface value)
+by_object surface None = tt
+by_object surface (Some value) = by_value surface value
 
 by_body : (surface : Surface) (body : List ℕ) → IsTold surface (asked_by surface body)
-by_body surface body = either surface (is_utf8 body) (asked_by_value surface (read body)) (Err bad_json) (by_value surface (read body)) tt
+by_body surface body = by_object surface (object_in body)
 
 -- ---- routes
 

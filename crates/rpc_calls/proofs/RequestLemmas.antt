@@ -11,7 +11,7 @@ use Rattle.percent_encoding.specs.Percent.{percent_decode}
 use Rattle.serde_json.specs.Data.{Data, Members, object, member, no_members, null, boolean, number, string, array}
 use Rattle.serde_json.specs.Find.{as_object}
 use Rattle.serde_json.specs.Read.{read}
-use Rattle.rpc_calls.specs.Calls.{asked_by, asked_by_value, call_of, from_route}
+use Rattle.rpc_calls.specs.Calls.{asked_in, call_of, from_route}
 use Rattle.rpc_calls.specs.Operations.{asked, asked_of, asked_on, operations, text_member, with_member, numbered_id}
 use Rattle.rpc_calls.specs.Outcomes.{bad_call, bad_json}
 use Rattle.rpc_calls.specs.Requests.{IsAskable, get_of, post_of, operation_object, one, new_source}
@@ -19,6 +19,7 @@ use Rattle.http_text.specs.Print.{IsPrintable, is_path_byte, is_visible}
 use Rattle.rpc_calls.specs.Routes.{patch_route, route_of}
 use Rattle.rpc_calls.specs.Surfaces.{has_operation}
 use Rattle.std.specs.Option.{ForSome}
+use Rattle.rpc_calls.proofs.ObjectLemmas.{object_by_text}
 use Rattle.delta_base.proofs.IdLemmas.{number_of-text_of}
 use Rattle.delta_base.specs.Ids.{IsId, text_of}
 use Rattle.delta_base.specs.declared.id.Id.{Id}
@@ -37,28 +38,6 @@ asked_with surface value word is has =
     ap (λ (found : Option (List ℕ)). with_member (codes "operation") found (λ w. asked_on surface w value)) is
     ∙ ap (λ b. if b then asked_of operations word value else Err (bad_call (codes "operation"))) has
 
--- a body that reads as a value
-pub asked_by_text : (surface : Surface) (body : List ℕ) (found : Option Data) → IsUtf8 body → read body ≡ found → asked_by surface body ≡ asked_by_value surface found
-asked_by_text surface body found utf8 is =
-    ap (λ b. if b then asked_by_value surface (read body) else Err bad_json) (is_utf8-from_IsUtf8 body utf8) ∙ ap (asked_by_value surface) is
-
--- a value that is an object
-pub an_object : (surface : Surface) (value : Data) → is_some (as_object value) ≡ true → asked_by_value surface (Some value) ≡ asked surface value
-an_object surface null is = absurd (true≢false (sym is))
-an_object surface (boolean b) is = absurd (true≢false (sym is))
-an_object surface (number n) is = absurd (true≢false (sym is))
-an_object surface (string s) is = absurd (true≢false (sym is))
-an_object surface (array items) is = absurd (true≢false (sym is))
-an_object surface (object found) is = refl
-
--- a body that isn't UTF-8, or reads as nothing
-pub no_json : (surface : Surface) (body : List ℕ) → (IsUtf8 body → read body ≡ None) → asked_by surface body ≡ Err bad_json
-no_json surface body none = by_test (is_utf8 body) refl
-  where
-    by_test : (test : Bool) → is_utf8 body ≡ test → (if test then asked_by_value surface (read body) else Err bad_json) ≡ Err bad_json
-    by_test true is = ap (asked_by_value surface) (none (IsUtf8-from_is_utf8 body is))
-    by_test false is = refl
-
 -- ---- operations
 
 rpc_route : route_of (codes "/$/rpc") ≡ Some route.Rpc
@@ -74,7 +53,7 @@ pub operation_again : (body : List ℕ) (given : Members) → IsUtf8 body → re
 unfolding trim_ows is_utf8
 operation_again body given utf8 is =
     let request = post_of (codes "/$/rpc") (codes "application/json") body in
-    ap (λ (r : Option Route). from_route Hall r request) rpc_route ∙ asked_by_text Hall body (Some (object given)) utf8 is
+    ap (λ (r : Option Route). from_route Hall r request) rpc_route ∙ ap (asked_in Hall) (object_by_text body (Some (object given)) utf8 is)
 
 pub ping_again : call_of (get_of (codes "/$/ping")) ≡ Ok call.Ping
 ping_again = ap (λ (r : Option Route). from_route Hall r (get_of (codes "/$/ping"))) ping_route

@@ -14,6 +14,7 @@ mod path;
 mod print;
 mod read;
 mod route;
+mod service;
 mod surface;
 mod values;
 
@@ -23,4 +24,5 @@ pub use members::text_of;
 pub use path::{cut_path, read_segment};
 pub use print::print_call;
 pub use read::{read_call, read_call_on};
+pub use service::{check_get, check_post, read_object, read_service};
 pub use surface::Surface;

@@ -10,13 +10,12 @@ ghost use Rattle.turn_cell.specs.Sharing.{IsPassOf};
 ghost use Rattle.shared_zone.specs.History.{shared_zone, version_seen};
 ghost use Rattle.zone_follower.specs.Following.{Followed};
 
-use crate::ends::end_of;
 use crate::taking::Following;
 use catch_up::catch_up;
 use delta_base::Text;
 use delta_client::Dial;
 use disk_model::Disk;
-use follower::SyncEnd;
+use follower::{SyncEnd, sync_end};
 use shared_zone::{ZoneHall, ZonePass};
 use std::alloc::Global;
 use std::sync::Wait;
@@ -57,5 +56,5 @@ pub fn follow<R: Wait, N: Dial, D: Disk>(
     ensures held { N.held net.new ≡ N.held net.old }
 {
     let following = Following { rt, hall };
-    end_of(catch_up(alloc, net, address, name, &following, pass))
+    sync_end(catch_up(alloc, net, address, name, &following, pass))
 }

@@ -8,7 +8,6 @@
 //! no patch but those that it read.
 #![tactic(auto)]
 
-mod ends;
 mod following;
 mod laws;
 mod taking;

@@ -1,26 +1,17 @@
 use Rattle.std.proofs.Common.{subst}
-use Rattle.http_session.specs.Talks.{TalksOn, moment_of}
-use Rattle.delta_session.specs.Answered.{Answered}
+use Rattle.http_session.specs.Talks.{moment_of}
 use Rattle.delta_session.specs.Steps.{HallSight}
-use Rattle.delta_session.specs.Sessions.{all_of}
-use Rattle.delta_session.proofs.Complete.{all_answered}
+use Rattle.delta_session.specs.Sessions.{IsSession, all_of}
 use Rattle.delta_session.proofs.Passing.{has_stayed}
 use Rattle.delta_session.proofs.Said.{steps_said}
 use Rattle.delta_session.proofs.session.serve_session.Goals as goal
 
 pub returns-clause-session : goal.returns-clause-session
 returns-clause-session g c =
-    let e = c.converse.ensures in
     let link = c.args.link.now in
     let left = c.converse.new.link in
-    let talks = subst (λ (s : HallSight). TalksOn (Answered g.D.Disk c.args.hall.now) (moment_of (record s { dice = c.args.dice }) (g.L.Link.left link) (g.L.Link.sent link) (g.L.Link.faults link))
-    (moment_of c.converse.new.state (g.L.Link.left left) (g.L.Link.sent left) (g.L.Link.faults left)) c.converse.result) c.pass.view_is e.talks in record {
-      talks = talks;
-      drained = e.drained;
-      failed = e.failed;
-      complete = λ well memory. all_answered talks.4.exchanges talks.4.rest talks.1 c.converse.result talks.4.writes (λ is. well (e.failed is)) memory;
-      never_falls = e.never_falls;
-    }
+    subst (λ (s : HallSight). IsSession g.D.Disk c.args.hall.now (moment_of (record s { dice = c.args.dice }) (g.L.Link.left link) (g.L.Link.sent link) (g.L.Link.faults link))
+    (moment_of c.converse.new.state (g.L.Link.left left) (g.L.Link.sent left) (g.L.Link.faults left)) c.converse.result) c.pass.view_is c.converse.ensures.conversed
 
 pub returns-clause-number : goal.returns-clause-number
 returns-clause-number g c =

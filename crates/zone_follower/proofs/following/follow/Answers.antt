@@ -9,14 +9,14 @@ use Rattle.zone_follower.proofs.following.follow.Goals as goal
 pub returns-clause-followed : goal.returns-clause-followed
 returns-clause-followed g c =
     let all = c.catch_up.ensures.run in
-    (all.0, record { run_end = c.catch_up.result; ended = c.end_of.ensures; taken = all.1 }, all.2)
+    (all.0, record { run_end = c.catch_up.result; ended = c.sync_end.ensures; taken = all.1 }, all.2)
 
 pub returns-clause-caught_up : goal.returns-clause-caught_up
 returns-clause-caught_up g c = λ version is.
     let all = c.catch_up.ensures.run in
-    let followed : Followed g.D.Disk c.args.hall.now.origin c.args.pass.now all.0 c.end_of.result c.catch_up.new.state = record { run_end = c.catch_up.result; ended = c.end_of.ensures; taken = all.1 } in
+    let followed : Followed g.D.Disk c.args.hall.now.origin c.args.pass.now all.0 c.sync_end.result c.catch_up.new.state = record { run_end = c.catch_up.result; ended = c.sync_end.ensures; taken = all.1 } in
     (subst (λ (e : SyncEnd). FollowCause g.D.Disk c.args.hall.now.origin c.args.pass.now all.0 c.catch_up.new.state e) is
-    (has_cause g.D.Disk c.args.hall.now.origin c.args.pass.now all.0 c.catch_up.new.state c.end_of.result followed)).0
+    (has_cause g.D.Disk c.args.hall.now.origin c.args.pass.now all.0 c.catch_up.new.state c.sync_end.result followed)).0
 
 pub returns-clause-sees_on : goal.returns-clause-sees_on
 returns-clause-sees_on g c =
@@ -26,6 +26,6 @@ returns-clause-sees_on g c =
 pub returns-clause-disk : goal.returns-clause-disk
 returns-clause-disk g c = λ is.
     let all = c.catch_up.ensures.run in
-    let followed : Followed g.D.Disk c.args.hall.now.origin c.args.pass.now all.0 c.end_of.result c.catch_up.new.state = record { run_end = c.catch_up.result; ended = c.end_of.ensures; taken = all.1 } in
+    let followed : Followed g.D.Disk c.args.hall.now.origin c.args.pass.now all.0 c.sync_end.result c.catch_up.new.state = record { run_end = c.catch_up.result; ended = c.sync_end.ensures; taken = all.1 } in
     (subst (λ (e : SyncEnd). FollowCause g.D.Disk c.args.hall.now.origin c.args.pass.now all.0 c.catch_up.new.state e) is
-    (has_cause g.D.Disk c.args.hall.now.origin c.args.pass.now all.0 c.catch_up.new.state c.end_of.result followed)).2
+    (has_cause g.D.Disk c.args.hall.now.origin c.args.pass.now all.0 c.catch_up.new.state c.sync_end.result followed)).2

@@ -42,9 +42,9 @@ returns-in-FetchVersion-clause-takes g c =
     let before : HallSight = record { lists = record { registry = c.pass-in-FetchVersion.inside.registry; logs = c.pass-in-FetchVersion.inside.logs }; dice = c.pass-in-FetchVersion.inside.dice } in
     let after : HallSight = record { lists = record { registry = c.pass-in-FetchVersion.inside.registry; logs = c.fetch_version.new.pass }; dice = c.pass-in-FetchVersion.inside.dice } in
     subst (λ (call : SlotCall). TakesNoNumber g.D.Disk c.args.self.now (BySlot call c.args.slot) c.args.pass.now c.say_fetched.result after) (sym c.in-FetchVersion.is)
-    (subst (λ (n : ℕ). TakesNoNumber g.D.Disk c.args.self.now (ByLog c.args.slot (log.fetch_version n)) c.args.pass.now c.say_fetched.result after) c.within.ensures
-    (moved g.D.Disk c.args.self.now hall c.self.view_is c.args.pass.now before c.pass-in-FetchVersion.view_is (ByLog c.args.slot (log.fetch_version c.within.result)) c.say_fetched.result after
-    (takes_fetched g.D.Disk hall before c.fetch_version.new.pass c.args.slot (λ (reply : Fetched). reply_fetched reply) (log.fetch_version c.within.result) c.fetch_version.result c.say_fetched.result tt c.fetch_version.ensures.called c.fetch_version.ensures.want c.fetch_version.ensures.whole c.say_fetched.ensures.says c.say_fetched.ensures.want)))
+    (subst (λ (n : ℕ). TakesNoNumber g.D.Disk c.args.self.now (ByLog c.args.slot (log.fetch_version n)) c.args.pass.now c.say_fetched.result after) c.version_within.ensures
+    (moved g.D.Disk c.args.self.now hall c.self.view_is c.args.pass.now before c.pass-in-FetchVersion.view_is (ByLog c.args.slot (log.fetch_version c.version_within.result)) c.say_fetched.result after
+    (takes_fetched g.D.Disk hall before c.fetch_version.new.pass c.args.slot (λ (reply : Fetched). reply_fetched reply) (log.fetch_version c.version_within.result) c.fetch_version.result c.say_fetched.result tt c.fetch_version.ensures.called c.fetch_version.ensures.want c.fetch_version.ensures.whole c.say_fetched.ensures.says c.say_fetched.ensures.want)))
 
 pub returns-in-FetchVersion-clause-ready : goal.returns-in-FetchVersion-clause-ready
 returns-in-FetchVersion-clause-ready g c =

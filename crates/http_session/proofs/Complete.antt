@@ -1,10 +1,9 @@
 -- Where its link works and memory doesn't run out, a session answers all that it read.
 use Rattle.std.proofs.Common.{◌≡◌, ◌≢◌, ℕ, List, [], sym, ◌∙◌, append-nil, refl}
 use Rattle.http_session.specs.Output.{Exchange, output}
-use Rattle.http_session.specs.Talks.{Writes}
+use Rattle.http_session.specs.Talks.{AnswersAll, Writes}
 use Rattle.http_text.specs.declared.session.SessionEnd.{SessionEnd}
 use Rattle.http_text.specs.declared.session.SessionEnd.TheVariants.{Closed, Asked, Spent, Refused, CutShort, LinkFault, OutOfMemory}
-use Rattle.delta_session.specs.Sessions.{AnswersAll}
 
 nothing_more : (exchanges : List Exchange) (written : List ℕ) → written ≡ output exchanges → AnswersAll exchanges written
 nothing_more exchanges written is = ([], is ∙ sym (append-nil (output exchanges)))

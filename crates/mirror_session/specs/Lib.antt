@@ -1,0 +1,6 @@
+pub mod Asking
+pub mod Telling
+pub mod Answered
+pub mod Sessions
+pub mod Working
+pub mod Laws
