@@ -12,6 +12,7 @@ mod hall;
 mod laws;
 mod past;
 mod value;
+mod was;
 
 pub use answers::{Shown, Stayed};
 pub use fixed::{KeptBrief, ZoneFixed};
@@ -19,3 +20,4 @@ pub use hall::{ZoneHall, ZonePass};
 pub use laws::zones_are_closed_at_each_moment;
 pub use past::TakenSince;
 pub use value::ZoneValue;
+pub use was::Was;

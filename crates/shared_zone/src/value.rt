@@ -10,6 +10,7 @@ ghost use Rattle.shared_zone.specs.Stays.{DoesOnZone};
 use crate::answers::{Shown, Stayed};
 use crate::fixed::ZoneFixed;
 use crate::past::TakenSince;
+use crate::was::Was;
 use chain_core::Patch;
 use dataset_tx::Pattern;
 use delta_base::OutOfMemory;
@@ -20,7 +21,6 @@ use paired_zone::PairedZone;
 use patch_meaning::Checked;
 use quad_index::Steps;
 use std::marker::{Brand, Model};
-use std::snapshot::Snapshot;
 use std::sync::ledger::{Blank, Ledger};
 use turn_cell::Chained;
 
@@ -32,7 +32,7 @@ pub struct ZoneValue<D: Disk> {
     /// How many patches it had taken when it was shared.
     opened: u32,
     /// The zone as it was then.
-    base: Snapshot<PairedZone<D>>,
+    base: Was<PairedZone<D>>,
     past: TakenSince,
 }
 
@@ -82,7 +82,7 @@ impl<D: Disk> ZoneValue<D> {
         ensures stands { ZoneStandsInTurn D.Disk result }
     {
         let opened = zone.version();
-        let base = Snapshot::of(&zone);
+        let base = Was::of(&zone);
         ZoneValue {
             zone,
             opened,
