@@ -61,7 +61,7 @@ handed_follows limits chain version patch fate (up taken doubt) at follows = by_
     by_test true is = decided_each taken doubt patch (λ patches. GrowsTo patches chain) follows fate (decision taken patch limits) (λ v accepts. next_front taken chain version patch follows.0 (eqb-true version (length taken + 1) is) at)
     by_test false is = follows
 
-contained : (pool : List Message) (place : ℕ) (message : Message) → slice_get pool place ≡ Some message → Contains pool message
+pub contained : (pool : List Message) (place : ℕ) (message : Message) → slice_get pool place ≡ Some message → Contains pool message
 contained pool place message is = (place, slice_get_within pool place message is, get_or_from_slice_get pool place message message is)
 
 -- so may any message that was sent
@@ -95,7 +95,7 @@ fold_follows limits point (event ∷ events) served all =
     fold_follows limits next events (step_serves limits point event served)
     (all_on (chain_of point.log) (chain_of next.log) next.zones (sending_grows limits point.log event) (zones_follow_on limits point event served all))
 
-begins_log : (point : WorldPoint) (taken : List Patch) → GrowsTo taken (chain_of point.log) → BeginsLog point.log taken
+pub begins_log : (point : WorldPoint) (taken : List Patch) → GrowsTo taken (chain_of point.log) → BeginsLog point.log taken
 begins_log point taken grows found may = grows_on taken (chain_of point.log) (patches_in found) grows (found_grows point.log found may)
 
 found_begins : (point : WorldPoint) (zone : ZonePoint) (taken : List Patch) → Follows (chain_of point.log) zone → MayBeFound zone taken → BeginsLog point.log taken

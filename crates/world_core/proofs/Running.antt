@@ -264,7 +264,7 @@ described_is entries runs count head same counts heads =
 -- ---- images
 
 -- each image of a log's disk holds what may be found
-images_found : (part : LogPart) (point : LogPoint (List Patch)) → IsPartOf part point → EveryImageOf part (HoldsRuns (MayBeFound point))
+pub images_found : (part : LogPart) (point : LogPoint (List Patch)) → IsPartOf part point → EveryImageOf part (HoldsRuns (MayBeFound point))
 images_found (Up log) (up runs doubt) is = carried_images run_text LOG_NUMBER log.disk runs doubt (log_carries log runs doubt is)
 images_found (Up log) (down runs) is = absurd is
 images_found (Down disk) (up runs doubt) keeps = absurd keeps
@@ -277,7 +277,7 @@ part_chains (Up log) (down runs) is = absurd is
 part_chains (Down disk) (up runs doubt) keeps = absurd keeps
 part_chains (Down disk) (down runs) keeps = keeps.without.log.chain
 
-weaker_images : (part : LogPart) (P Q : List ℕ → Type 0) → ((image : List ℕ) → P image → Q image) → EveryImageOf part P → EveryImageOf part Q
+pub weaker_images : (part : LogPart) (P Q : List ℕ → Type 0) → ((image : List ℕ) → P image → Q image) → EveryImageOf part P → EveryImageOf part Q
 weaker_images (Up log) P Q implies each = λ image left. implies image (each image left)
 weaker_images (Down disk) P Q implies each = λ image left. implies image (each image left)
 

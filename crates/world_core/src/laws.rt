@@ -7,6 +7,8 @@ ghost use Rattle.chain_core.specs.Links.{IsChain};
 ghost use Rattle.chain_core.specs.Patches.{links_of, patch_at};
 ghost use Rattle.chain_core.specs.Runs.{patches_in};
 ghost use Rattle.world_core.specs.declared.event.WorldEvent.{WorldEvent};
+ghost use Rattle.world_core.specs.declared.mirror.MirrorEvent.{MirrorEvent};
+ghost use Rattle.world_core.specs.Mirrors.{mirrored};
 ghost use Rattle.world_core.specs.World.{world, MayBeFound, BringsRun, WasAccepted, StandsAt};
 ghost use Rattle.world_core.specs.World.{ZonePoint, WasServed, BeginsLog};
 
@@ -41,4 +43,11 @@ pub fn zones_follow()
     ensures { (limits : LogLimits) (events : List WorldEvent) (place : ℕ) (zone : ZonePoint)
         (taken : List Patch) → slice_get (world limits events).zones place ≡ Some zone
         → MayBeFound zone taken → BeginsLog (world limits events).log taken }
+{}
+
+/// What a mirror has begins the log, whatever happened and whatever a crash leaves of either.
+pub fn mirrors_follow()
+    ensures { (limits : LogLimits) (events : List MirrorEvent) (found : List (List Patch))
+        → MayBeFound (mirrored limits events).log found
+        → BeginsLog (mirrored limits events).origin.log (patches_in found) }
 {}

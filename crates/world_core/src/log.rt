@@ -38,8 +38,8 @@ pub enum LogPart {
 /// A log, and the message that it sent, if it sent one.
 pub(crate) type Sent = (LogPart, Option<Message>);
 
-// Opens the log that a disk keeps.
-fn open(alloc: Global, disk: PlanDisk) -> Result<LogState<PlanDisk>, OutOfMemory>
+/// Opens the log that a disk keeps.
+pub(crate) fn open(alloc: Global, disk: PlanDisk) -> Result<LogState<PlanDisk>, OutOfMemory>
     requires { (runs : List (List OnePatch)) × KeepsRuns disk runs }
     ensures { IfOk result (λ log. (runs : List (List OnePatch)) → KeepsRuns disk runs
         → Runs log runs None) }
@@ -64,8 +64,12 @@ pub(crate) fn start(alloc: Global) -> Result<LogState<PlanDisk>, OutOfMemory>
     open(alloc, disk)
 }
 
-// The disk as a stop leaves it: a gate in doubt stands open, or it is shut.
-fn stop(alloc: Global, log: LogState<PlanDisk>, opened: bool) -> Result<PlanDisk, OutOfMemory>
+/// The disk as a stop leaves it: a gate in doubt stands open, or it is shut.
+pub(crate) fn stop(
+    alloc: Global,
+    log: LogState<PlanDisk>,
+    opened: bool,
+) -> Result<PlanDisk, OutOfMemory>
     ensures { IfOk result (λ disk. (runs : List (List OnePatch)) (doubt : Option (List OnePatch))
         → Runs log runs doubt
         → KeepsRuns disk (if opened then with_one_more runs doubt else runs)) }
@@ -124,8 +128,8 @@ fn message_of(run: &Run, answer: LogAnswer) -> Option<Message>
     }
 }
 
-// Appends with this fate. A stop is run as a failure of its phase, behind which the log is closed.
-fn append_as(
+/// Appends with this fate. A stop is run as a failure of its phase, behind which the log is closed.
+pub(crate) fn append_as(
     alloc: Global,
     log: LogState<PlanDisk>,
     run: &Run,

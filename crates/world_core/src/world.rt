@@ -21,8 +21,8 @@ pub struct World {
     pub pool: Messages,
 }
 
-// An empty log that runs, no zone and no message.
-fn first(alloc: Global) -> Result<World, OutOfMemory>
+/// An empty log that runs, no zone and no message.
+pub(crate) fn first(alloc: Global) -> Result<World, OutOfMemory>
     ensures { IfOk result (λ world. IsWorldOf world start) }
 {
     Ok(World {
@@ -32,8 +32,8 @@ fn first(alloc: Global) -> Result<World, OutOfMemory>
     })
 }
 
-// Runs one event.
-fn run(alloc: Global, world: World, event: &WorldEvent) -> Result<World, OutOfMemory>
+/// Runs one event.
+pub(crate) fn run(alloc: Global, world: World, event: &WorldEvent) -> Result<World, OutOfMemory>
     requires { (point : WorldPoint) × IsWorldOf world point }
     ensures { IfOk result (λ after. (point : WorldPoint) → IsWorldOf world point
         → IsWorldOf after (step LOG_LIMITS point event.now)) }

@@ -23,8 +23,8 @@ use zone_state::Zone;
 /// Zones in the order in which they came, numbered from 0.
 pub type ZoneParts = Listing<ZonePart>;
 
-// A patch that was sent, checked again.
-fn check(alloc: Global, patch: &Patch) -> Result<Checked, OutOfMemory>
+/// A patch that was sent, checked again.
+pub(crate) fn check(alloc: Global, patch: &Patch) -> Result<Checked, OutOfMemory>
     requires { IsSound patch.now }
     ensures { IfOk result (λ checked. bare checked ≡ patch.now) }
 {

@@ -1,14 +1,14 @@
 //! Worlds of a few events: what they come to.
 use crate::events::{Step, id_of, patch_of, run};
-use crate::parts::{are_notes, has_values};
+use crate::parts::{are_notes, has_chain, has_values};
 use crate::plain::Note;
-use chain_core::{Chain, Fate};
+use chain_core::Fate;
 use delta_base::Id;
 use log_base::{ChainLink, Phase};
 use std::alloc::Global;
 use std::process::Abort;
 use std::test::Fail;
-use world_core::{LogPart, Message, World, ZonePart};
+use world_core::{Message, World, ZonePart};
 
 /// What a world has come to.
 enum Look {
@@ -358,26 +358,6 @@ static CASES: [Case; 17] = [
         ],
     },
 ];
-
-fn is_chain(chain: &Chain, numbers: &[u32]) -> bool {
-    if chain.version() as usize != numbers.len() {
-        return false;
-    }
-    for (place, number) in numbers.iter().enumerate() {
-        match chain.by_version(place as u32 + 1) {
-            Some(patch) if patch.id == id_of(*number) => {}
-            _ => return false,
-        }
-    }
-    true
-}
-
-fn has_chain(part: &LogPart, numbers: &[u32]) -> bool {
-    match part {
-        LogPart::Up(log) => is_chain(log.chain(), numbers),
-        LogPart::Down(_) => false,
-    }
-}
 
 fn has_text(alloc: Global, message: Option<&Message>, number: u32) -> Result<bool, Fail> {
     let wanted = patch_of(alloc, id_of(number), None)?;

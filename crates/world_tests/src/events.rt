@@ -144,7 +144,8 @@ fn named(number: u32) -> Option<Id> {
     Some(id_of(number))
 }
 
-fn event_of(alloc: Global, step: Step) -> Result<WorldEvent, Fail> {
+/// The event with its patches.
+pub fn event_of(alloc: Global, step: Step) -> Result<WorldEvent, Fail> {
     let event = match step {
         Step::Append {
             number,

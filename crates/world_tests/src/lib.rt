@@ -1,11 +1,13 @@
-//! Worked examples of worlds: what is accepted, what a stop leaves, what a zone takes, and many
-//! worlds made by rule.
+//! Worked examples of worlds: what is accepted, what a stop leaves, what a zone takes and a
+//! mirror has, and many worlds made by rule.
 #![tactic(auto)]
 
 #[cfg(test)]
 mod cases;
 #[cfg(test)]
 mod events;
+#[cfg(test)]
+mod mirrors;
 #[cfg(test)]
 mod parts;
 #[cfg(test)]

@@ -1,5 +1,5 @@
 //! Compares worlds that were run with plain ones.
-use crate::events::line_of;
+use crate::events::{id_of, line_of};
 use crate::plain::{Note, Plain, Point};
 use chain_core::Chain;
 use delta_base::Bytes;
@@ -34,6 +34,28 @@ fn has_links(chain: &Chain, links: &[ChainLink], more: &[ChainLink]) -> bool {
         }
     }
     true
+}
+
+// The chain has just the patches with these numbers, in order.
+fn is_chain(chain: &Chain, numbers: &[u32]) -> bool {
+    if chain.version() as usize != numbers.len() {
+        return false;
+    }
+    for (place, number) in numbers.iter().enumerate() {
+        match chain.by_version(place as u32 + 1) {
+            Some(patch) if patch.id == id_of(*number) => {}
+            _ => return false,
+        }
+    }
+    true
+}
+
+/// The log is up and has just the patches with these numbers, in order.
+pub fn has_chain(part: &LogPart, numbers: &[u32]) -> bool {
+    match part {
+        LogPart::Up(log) => is_chain(log.chain(), numbers),
+        LogPart::Down(_) => false,
+    }
 }
 
 // Opening a disk finds just these patches.
