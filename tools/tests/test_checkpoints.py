@@ -228,7 +228,9 @@ def test_a_checkpoint_that_is_not_made(running: Running, tmp_path: Path) -> None
 def test_checkpoints_of_the_program(running: Running, tmp_path: Path) -> None:
     zone = tmp_path / "zone"
     words = ("follow", zone, "ABC", "--once", "--checkpoint", 2)
+    filled = 0
     for version, is_kept in [(1, 0), (3, 3), (4, 3), (6, 6), (7, 6)]:
-        running.fill("ABC", version - (running.client.log("ABC").state().version if version > 1 else 0), begin=version)
+        running.fill("ABC", version - filled, begin=filled + 1)
+        filled = version
         assert rdfd(*words, address=running.address).status == 0
         assert ZoneCounter(zone).look().kept == is_kept
